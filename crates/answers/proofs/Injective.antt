@@ -1,0 +1,107 @@
+-- What an answer tells determines the answer: from the numbers the answer can be read back.
+use mathlib.Core.Path.{_≡_, refl, sym, _∙_, ap}
+use mathlib.Core.List.{List, [], _∷_}
+use Prim.Native.Nat.{ℕ, zero, suc}
+use lib.ListN.{getD}
+use Rattle.answers.specs.declared.Refusal.{Refusal}
+use Rattle.answers.specs.declared.Refusal.the-variants.{Empty, TooLong, CodeTooLong, NotRealizable, BrokenSet, SetFull, OtherAutomaton, BrokenState, TextTooLong, ArrayTooShort, ListTooLong}
+use Rattle.answers.specs.declared.Written.{Written}
+use Rattle.answers.specs.declared.Encoded.{Encoded}
+use Rattle.answers.specs.declared.SetSize.{SetSize}
+use Rattle.answers.specs.declared.Built.{Built}
+use Rattle.answers.specs.declared.Filtered.{Filtered}
+use Rattle.answers.specs.declared.StreamAnswer.{StreamAnswer}
+use Rattle.answers.specs.declared.Counts.{Counts}
+use Rattle.answers.specs.Told.{number, toldWritten, toldEncoded, toldSize, toldBuilt, toldFiltered, toldStreamed}
+
+-- a map that can be undone is injective
+undo : {A B : Type 0} (f : A → B) (g : B → A) → ((a : A) → g (f a) ≡ a) → (a b : A) → f a ≡ f b → a ≡ b
+undo f g h a b e = sym (h a) ∙ ap g e ∙ h b
+
+abbrev refusalOf : ℕ → Refusal
+refusalOf n = getD (Empty ∷ Empty ∷ TooLong ∷ CodeTooLong ∷ NotRealizable ∷ BrokenSet ∷ SetFull ∷ OtherAutomaton ∷ BrokenState ∷ TextTooLong ∷ ArrayTooShort ∷ ListTooLong ∷ []) n Empty
+
+refusal-back : (r : Refusal) → refusalOf (number r) ≡ r
+refusal-back Empty = refl
+refusal-back TooLong = refl
+refusal-back CodeTooLong = refl
+refusal-back NotRealizable = refl
+refusal-back BrokenSet = refl
+refusal-back SetFull = refl
+refusal-back OtherAutomaton = refl
+refusal-back BrokenState = refl
+refusal-back TextTooLong = refl
+refusal-back ArrayTooShort = refl
+refusal-back ListTooLong = refl
+
+pub number-injective : (r s : Refusal) → number r ≡ number s → r ≡ s
+number-injective = undo number refusalOf refusal-back
+
+-- 0 where the call is accepted
+abbrev choose : {A : Type 0} → ℕ → A → (Refusal → A) → A
+choose zero a f = a
+choose (suc n) a f = f (refusalOf (suc n))
+
+choose-refused : {A : Type 0} (r : Refusal) (a : A) (f : Refusal → A) → choose (number r) a f ≡ f r
+choose-refused Empty a f = refl
+choose-refused TooLong a f = refl
+choose-refused CodeTooLong a f = refl
+choose-refused NotRealizable a f = refl
+choose-refused BrokenSet a f = refl
+choose-refused SetFull a f = refl
+choose-refused OtherAutomaton a f = refl
+choose-refused BrokenState a f = refl
+choose-refused TextTooLong a f = refl
+choose-refused ArrayTooShort a f = refl
+choose-refused ListTooLong a f = refl
+
+pub toldWritten-injective : (a b : Written) → toldWritten a ≡ toldWritten b → a ≡ b
+toldWritten-injective = undo toldWritten (λ (w : ℕ × ℕ). choose (w .0) (Written.Words (w .1)) Written.Refused) back
+  where
+    back : (a : Written) → choose (toldWritten a .0) (Written.Words (toldWritten a .1)) Written.Refused ≡ a
+    back (Written.Words n) = refl
+    back (Written.Refused r) = choose-refused r (Written.Words 0) Written.Refused
+
+pub toldEncoded-injective : (a b : Encoded) → toldEncoded a ≡ toldEncoded b → a ≡ b
+toldEncoded-injective = undo toldEncoded (λ (w : ℕ × ℕ). choose (w .0) (Encoded.Code (w .1)) Encoded.Refused) back
+  where
+    back : (a : Encoded) → choose (toldEncoded a .0) (Encoded.Code (toldEncoded a .1)) Encoded.Refused ≡ a
+    back (Encoded.Code n) = refl
+    back (Encoded.Refused r) = choose-refused r (Encoded.Code 0) Encoded.Refused
+
+pub toldSize-injective : (a b : SetSize) → toldSize a ≡ toldSize b → a ≡ b
+toldSize-injective = undo toldSize (λ (w : ℕ × ℕ × ℕ). choose (w .0) (SetSize.Holds (w .1) (w .2)) SetSize.Refused) back
+  where
+    back : (a : SetSize) → choose (toldSize a .0) (SetSize.Holds (toldSize a .1) (toldSize a .2)) SetSize.Refused ≡ a
+    back (SetSize.Holds m n) = refl
+    back (SetSize.Refused r) = choose-refused r (SetSize.Holds 0 0) SetSize.Refused
+
+pub toldBuilt-injective : (a b : Built) → toldBuilt a ≡ toldBuilt b → a ≡ b
+toldBuilt-injective = undo toldBuilt (λ (w : ℕ × ℕ × ℕ). choose (w .0) (Built.Nodes (w .1) (w .2)) Built.Refused) back
+  where
+    back : (a : Built) → choose (toldBuilt a .0) (Built.Nodes (toldBuilt a .1) (toldBuilt a .2)) Built.Refused ≡ a
+    back (Built.Nodes m n) = refl
+    back (Built.Refused r) = choose-refused r (Built.Nodes 0 0) Built.Refused
+
+pub toldFiltered-injective : (a b : Filtered) → toldFiltered a ≡ toldFiltered b → a ≡ b
+toldFiltered-injective = undo toldFiltered (λ (w : ℕ × ℕ × ℕ). choose (w .0) (Filtered.Found (w .1) (w .2)) Filtered.Refused) back
+  where
+    back : (a : Filtered) → choose (toldFiltered a .0) (Filtered.Found (toldFiltered a .1) (toldFiltered a .2)) Filtered.Refused ≡ a
+    back (Filtered.Found m n) = refl
+    back (Filtered.Refused r) = choose-refused r (Filtered.Found 0 0) Filtered.Refused
+
+-- ended or full
+abbrev chooseEnd : ℕ → Counts → StreamAnswer
+chooseEnd zero c = StreamAnswer.Full c
+chooseEnd (suc n) c = StreamAnswer.Ended c
+
+abbrev countsOf : ℕ × ℕ × ℕ × ℕ × ℕ → Counts
+countsOf w = record { taken = w .2; hits = w .3; attempts = w .4 }
+
+pub toldStreamed-injective : (a b : StreamAnswer) → toldStreamed a ≡ toldStreamed b → a ≡ b
+toldStreamed-injective = undo toldStreamed (λ (w : ℕ × ℕ × ℕ × ℕ × ℕ). choose (w .0) (chooseEnd (w .1) (countsOf w)) StreamAnswer.Refused) back
+  where
+    back : (a : StreamAnswer) → choose (toldStreamed a .0) (chooseEnd (toldStreamed a .1) (countsOf (toldStreamed a))) StreamAnswer.Refused ≡ a
+    back (StreamAnswer.Ended c) = refl
+    back (StreamAnswer.Full c) = refl
+    back (StreamAnswer.Refused r) = choose-refused r (chooseEnd 0 (countsOf (number r, 0, 0, 0, 0))) StreamAnswer.Refused

@@ -1,0 +1,15 @@
+-- `label` meets its contract: it reads the second word of the record.
+use Rattle.model.specs.AutomatonWords.{recordOf}
+use borrow.Author.Needs.{needs}
+use Rattle.automaton_lookup.proofs.label.Statement.{statement}
+use Rattle.automaton_lookup.proofs.label.Tie as tie
+
+field-requires : tie.Need-field-requires
+field-requires c κs = search needs
+
+returns : tie.Need-returns
+unfolding recordOf
+returns c = c .field .ensures
+
+pub label-spec : {M : Type 1} → statement M
+label-spec = tie.close (tie.spec field-requires returns)

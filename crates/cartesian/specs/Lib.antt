@@ -1,0 +1,4 @@
+-- The root of the crate's definitions.
+pub mod Tree
+pub mod Distances
+pub mod TreeOf

@@ -1,0 +1,7 @@
+-- The root of the crate's laws.
+pub mod More
+pub mod Links
+pub mod LeftPart
+pub mod Walk
+pub mod Steps
+pub mod WindowCheck

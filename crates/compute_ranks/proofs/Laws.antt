@@ -1,0 +1,67 @@
+-- The ways through the two loops, in the words of the code: what of a list is in the sum and what is still to be ranked, and which distances of a code are written already.
+use mathlib.Core.Path.{_≡_, refl, sym, _∙_, ap, subst}
+use mathlib.Core.Bool.{true}
+use mathlib.Core.List.{List, [], _∷_, _++_}
+use Prim.Native.Nat.{ℕ, zero, suc, _+_, _*_, _/_, _%_, _^_, _≤_, _<_}
+use native.Mathlib.Nat.{mul-le-mul-right, mod-lt}
+use native.Mathlib.Numerals.{add-one}
+use native.Mathlib.Omega.{arith}
+use native.Mathlib.Decide.{decLt}
+use lib.Dec.{T}
+use lib.ListN.{length, getD, drop, set, drop-of-length-le}
+use lib.Seq.{drop-cons}
+use Rattle.lists.proofs.Lists.{tabulate-more}
+use Rattle.realization.specs.Realizable.{realizable}
+use Rattle.realization.proofs.Realizable.{realizable-iff}
+use Rattle.ranking.specs.Rank.{factorial, rankFrom, rank, unrank}
+use Rattle.ranking.proofs.Rank.{rank-lt, realizable-ok}
+
+-- ---- ranking
+
+factorial-le : (m n : ℕ) → m ≤ n → factorial m ≤ factorial n
+unfolding factorial
+factorial-le m zero h = let e : m ≡ 0 = omega arith in rw e (omega arith)
+factorial-le m (suc n) h = go (decLt m (suc n)) (factorial-le m n)
+  where
+    go : Dec (m < suc n) → (m ≤ n → factorial m ≤ factorial n) → factorial m ≤ factorial (suc n)
+    go (yes l) ih = omega (arith, ih (omega arith), mul-le-mul-right {m = 1} {n = suc n} (factorial n) (omega arith))
+    go (no g) ih = let e : m ≡ suc n = omega arith in rw e (omega arith)
+
+-- the rank of at most 20 distances fits 64 bits, since 20! does
+pub rank-fits : (ds : List ℕ) → length ds ≤ 20 → realizable ds ≡ true → rank ds < 2 ^ 64
+unfolding factorial
+rank-fits ds h r =
+    let lt = rank-lt ds (realizable-ok ds (realizable-iff ds .0 (subst T (sym r) tt))) in
+    let le : factorial (length ds) ≤ 2432902008176640000 = factorial-le (length ds) 20 h in
+    omega arith
+
+-- before the loop every place from 1 on is left
+pub rank-starts : (ds : List ℕ) → 0 < length ds → rank ds ≡ 0 + rankFrom 1 (drop 1 ds)
+rank-starts [] h = absurd (let z : ⊥ = omega arith in z)
+rank-starts (d ∷ ds) h = omega arith
+
+-- a turn takes the distance at place i times its weight to the sum
+pub rank-goes-on : (ds : List ℕ) (i sum d f : ℕ) → i < length ds → rank ds ≡ sum + rankFrom i (drop i ds) → d ≡ getD ds i 0 → f ≡ factorial i → rank ds ≡ sum + d * f + rankFrom (i + 1) (drop (i + 1) ds)
+unfolding rankFrom
+rank-goes-on ds i sum d f h e p q =
+    e ∙ rw (drop-cons ds i 0 h, add-one i, p, q) (omega arith)
+
+-- behind the loop no place is left
+pub rank-ends : (ds : List ℕ) (i sum : ℕ) → length ds ≤ i → rank ds ≡ sum + rankFrom i (drop i ds) → sum ≡ rank ds
+unfolding rankFrom
+rank-ends ds i sum h e = sym (e ∙ rw (drop-of-length-le ds {i = i} h) (omega arith))
+
+-- ---- unranking
+
+-- the digit, from the weight and the modulus that the code has
+pub digit-is : (code i f m : ℕ) → f ≡ factorial i → m ≡ suc i → code / f % m ≡ code / factorial i % suc i
+digit-is code i f m p q = rw (p, q) refl
+
+-- a distance of a code of at most 21 places fits 32 bits
+pub digit-fits : (code i v : ℕ) → i ≤ 20 → v ≡ code / factorial i % suc i → v < 2 ^ 32
+digit-fits code i v h e = omega (arith, mod-lt (code / factorial i) {m = suc i} (omega arith))
+
+-- a turn writes the distance of place i
+pub unrank-goes-on : (d out : List ℕ) (code i v : ℕ) → i < length d → out ≡ unrank i code ++ drop i d → v ≡ code / factorial i % suc i → set out i v ≡ unrank (i + 1) code ++ drop (i + 1) d
+unfolding unrank
+unrank-goes-on d out code i v h e q = ap (λ (l : List ℕ). set l i v) e ∙ tabulate-more (λ j. code / factorial j % suc j) 0 d i v h q

@@ -1,0 +1,12 @@
+-- A table of factorials: one test, which antt computes over the whole table, gives the rule at each entry.
+use mathlib.Core.Path.{_≡_, _∙_, ap}
+use mathlib.Core.List.{List}
+use Prim.Native.Nat.{ℕ, _<_}
+use lib.Dec.{T}
+use lib.ListN.{getD}
+use Rattle.lists.specs.Lists.{tabulate, same}
+use Rattle.lists.proofs.Lists.{same-eq, getD-tabulate}
+use Rattle.ranking.specs.Rank.{factorial}
+
+pub table-at : (n : ℕ) (xs : List ℕ) → T (same xs (tabulate n factorial)) → (i : ℕ) → i < n → getD xs i 0 ≡ factorial i
+table-at n xs t i h = ap (λ (l : List ℕ). getD l i 0) (same-eq xs (tabulate n factorial) t) ∙ getD-tabulate n factorial 0 i h

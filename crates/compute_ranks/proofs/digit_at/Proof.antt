@@ -1,0 +1,25 @@
+-- The weight of the place is its factorial, which is not 0.
+use native.Mathlib.Omega.{arith}
+use Rattle.ranking.proofs.Arithmetic.{factorial-pos}
+use Rattle.compute_ranks.proofs.Laws.{digit-is}
+use borrow.Author.Needs.{needs}
+use Rattle.compute_ranks.proofs.digit_at.Statement.{statement}
+use Rattle.compute_ranks.proofs.digit_at.Tie as tie
+
+factorial-at-requires : tie.Need-factorial-at-requires
+factorial-at-requires c κs = search needs
+
+div-result : tie.Need-div-result
+div-result c = rw (c .factorial-at .ensures) (factorial-pos (c .before .args .i))
+
+add-result : tie.Need-add-result
+add-result c = search needs
+
+rem-result : tie.Need-rem-result
+rem-result c = search needs
+
+returns : tie.Need-returns
+returns c = digit-is _ _ _ _ (c .factorial-at .ensures) (omega arith)
+
+pub digit-at-spec : {M : Type 1} → statement M
+digit-at-spec = tie.close (tie.spec factorial-at-requires div-result add-result rem-result returns)

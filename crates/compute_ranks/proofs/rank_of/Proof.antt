@@ -1,0 +1,82 @@
+-- The rank is the sum so far and the part of the rank from place i on; so the sum never passes the rank, which is below 20!, and at the end it is the rank.
+use native.Mathlib.Omega.{arith}
+use mathlib.Core.Path.{_≡_}
+use Prim.Native.Nat.{_+_, _-_, _*_, _^_, _<_, _≤_}
+use lib.ListN.{length, drop}
+use Rattle.ranking.specs.Rank.{rank, rankFrom}
+use Rattle.compute_ranks.proofs.Laws.{rank-fits, rank-starts, rank-goes-on, rank-ends}
+use borrow.Author.Needs.{needs}
+use Rattle.compute_ranks.proofs.rank_of.Statement.{statement}
+use Rattle.compute_ranks.proofs.rank_of.Tie as tie
+
+abbrev Inv-loop : tie.InvT-loop
+Inv-loop ds sum₀ i₀ sum i = (i ≤ length ds) × (rank ds ≡ sum + rankFrom i (drop i ds))
+
+abbrev μ-loop : tie.MeasureT-loop
+μ-loop ds sum₀ i₀ sum i = length ds - i
+
+-- what is in the sum after the turn, and what is left
+summed : (c : tie.After-factorial-at Inv-loop μ-loop)
+    → rank (c .before .before .before .before .before .before .args .ds .now)
+    ≡ c .before .before .before .before .loop .sum + c .before .wide .result * c .factorial-at .result
+    + rankFrom (c .before .before .before .before .loop .i + 1) (drop (c .before .before .before .before .loop .i + 1) (c .before .before .before .before .before .before .args .ds .now))
+summed c =
+    let L = c .before .before .before .before .loop in
+    rank-goes-on _ (L .i) (L .sum) _ _ (c .before .before .before .loop-test .taken) (L .inv .1) (c .before .wide .ensures) (c .factorial-at .ensures)
+
+-- the rank fits 64 bits
+rank-small : (c : tie.After-factorial-at Inv-loop μ-loop) → rank (c .before .before .before .before .before .before .args .ds .now) < 2 ^ 64
+rank-small c =
+    let st = c .before .before .before .before .before .before in
+    rank-fits (st .args .ds .now) (st .pre .0) (st .pre .2)
+
+loop-holds : tie.Need-loop-holds Inv-loop μ-loop
+loop-holds c = (omega arith, rank-starts (c .before .args .ds .now) (c .before .pre .1))
+
+mul-wide : tie.Need-mul-wide Inv-loop μ-loop
+mul-wide c = search needs
+
+shared-slice-read-wide : tie.Need-shared-slice-read-wide Inv-loop μ-loop
+shared-slice-read-wide c = search needs
+
+wide-requires : tie.Need-wide-requires Inv-loop μ-loop
+wide-requires c κs = search needs
+
+factorial-at-requires : tie.Need-factorial-at-requires Inv-loop μ-loop
+factorial-at-requires c κs = search needs
+
+mul-sum : tie.Need-mul-sum Inv-loop μ-loop
+mul-sum c = omega (arith, summed c, rank-small c)
+
+add-sum : tie.Need-add-sum Inv-loop μ-loop
+add-sum c = omega (arith, summed c, rank-small c)
+
+add-i : tie.Need-add-i Inv-loop μ-loop
+add-i c = search needs
+
+loop-less : tie.Need-loop-less Inv-loop μ-loop
+loop-less c = search needs
+
+loop-again : tie.Need-loop-again Inv-loop μ-loop
+loop-again c = (omega arith, summed c)
+
+returns : tie.Need-returns Inv-loop μ-loop
+returns c = rank-ends _ _ _ (c .loop-test .left) (c .before .loop .inv .1)
+
+pub rank-of-spec : {M : Type 1} → statement M
+rank-of-spec =
+    tie.close
+    (tie.spec
+    Inv-loop
+    μ-loop
+    loop-holds
+    mul-wide
+    shared-slice-read-wide
+    wide-requires
+    factorial-at-requires
+    mul-sum
+    add-sum
+    add-i
+    loop-less
+    loop-again
+    returns)

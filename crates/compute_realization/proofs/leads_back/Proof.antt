@@ -1,0 +1,40 @@
+-- A distance 0 leads to no place and is in order; one that is more than its place leads out of the list; any other leads to an open place
+-- exactly if the place i - d is open.
+use mathlib.Core.Path.{_∙_}
+use Rattle.compute_realization.proofs.OpenPlaces.{leads-none, leads-out, leads-some}
+use borrow.Author.Needs.{needs}
+use Rattle.compute_realization.proofs.leads_back.Statement.{statement}
+use Rattle.compute_realization.proofs.leads_back.Tie as tie
+
+mul-wide : tie.Need-mul-wide
+mul-wide c = search needs
+
+shared-slice-read-wide : tie.Need-shared-slice-read-wide
+shared-slice-read-wide c = search needs
+
+wide-requires : tie.Need-wide-requires
+wide-requires c κs = search needs
+
+returns : tie.Need-returns
+returns c = leads-none _ _ _ (c .before .wide .ensures) (c .if1 .taken)
+
+returns-2 : tie.Need-returns-2
+returns-2 c = leads-out _ _ _ _ (c .before .before .wide .ensures) (c .if2 .taken)
+
+is-open-requires : tie.Need-is-open-requires
+is-open-requires c κs = search needs
+
+returns-3 : tie.Need-returns-3
+returns-3 c = c .is-open .ensures ∙ leads-some _ _ _ _ (c .before .before .before .wide .ensures) (c .before .before .if1 .left) (c .before .if2 .left)
+
+pub leads-back-spec : {M : Type 1} → statement M
+leads-back-spec =
+    tie.close
+    (tie.spec
+    mul-wide
+    shared-slice-read-wide
+    wide-requires
+    returns
+    returns-2
+    is-open-requires
+    returns-3)

@@ -1,0 +1,117 @@
+// Which lists of parent distances some values have, and the least values that have one, in linear time.
+ghost use mathlib.Core.Path.{_≡_};
+ghost use mathlib.Core.Bool.{true};
+ghost use mathlib.Core.List.{_++_};
+ghost use Prim.Native.Nat.{ℕ, _-_, _≤_, _<_};
+ghost use lib.Dec.{eqb};
+ghost use lib.IntN.{pos, _+ℤ_};
+ghost use lib.Signed.{_≤ℤ_};
+ghost use lib.ListN.{length, getD, drop};
+ghost use Rattle.lists.specs.Lists.{any};
+ghost use Rattle.realization.specs.Realizable.{leads, realizable};
+ghost use Rattle.realization.specs.LeastRealization.{leastRealization};
+ghost use Rattle.compute_realization.specs.OpenPlaces.{openPlaces, Led};
+ghost use Rattle.compute_realization.specs.NextLower.{IsNext};
+
+fn wide(x: u32) -> usize
+    ensures { λ r. ⌜ r ≡ x ⌝ }
+{
+    x as usize
+}
+
+// Whether the place target is open at i: whether the way of links from i - 1 down comes by it.
+fn is_open(ds: &[u32], i: usize, target: usize) -> bool
+    requires { ⌜ (target < i) × (i ≤ length (now ds)) × Led (now ds) i ⌝ }
+    ensures { λ r. ⌜ r ≡ any (eqb (i - target)) (openPlaces (now (ds .entry)) i) ⌝ }
+{
+    let mut j = i - 1;
+    while j > target {
+        let d = wide(ds[j]);
+        if d == 0 {
+            return false;
+        }
+        j -= d;
+    }
+    j == target
+}
+
+// Whether the distance at i leads to an open place, or is 0.
+fn leads_back(ds: &[u32], i: usize) -> bool
+    requires { ⌜ (i < length (now ds)) × Led (now ds) i ⌝ }
+    ensures { λ r. ⌜ r ≡ leads (getD (now (ds .entry)) i 0) (openPlaces (now (ds .entry)) i) ⌝ }
+{
+    let d = wide(ds[i]);
+    if d == 0 {
+        return true;
+    }
+    if d > i {
+        return false;
+    }
+    is_open(ds, i, i - d)
+}
+
+// Whether some values have these parent distances.
+pub fn is_realizable(ds: &[u32]) -> bool
+    ensures { λ r. ⌜ r ≡ realizable (now (ds .entry)) ⌝ }
+{
+    let n = ds.len();
+    let mut i = 0;
+    while i < n {
+        if !leads_back(ds, i) {
+            return false;
+        }
+        i += 1;
+    }
+    true
+}
+
+// The first place after i whose distance is 0 or leads before i, which is where the next lower value is; the length where there is none.
+// next holds the same of every place after i.
+fn next_lower(ds: &[u32], next: &[u32; 256], i: usize) -> usize
+    requires { ⌜ (i < length (now ds)) × (length (now ds) ≤ 256) ⌝ }
+    requires { ⌜ ((k : ℕ) → i < k → k < length (now ds) → IsNext (now ds) k (getD (now next) k 0)) ⌝ }
+    ensures { λ r. ⌜ IsNext (now (ds .entry)) i r ⌝ }
+{
+    let n = ds.len();
+    let mut j = i + 1;
+    while j < n {
+        let d = wide(ds[j]);
+        if d == 0 {
+            return j;
+        }
+        if d > j - i {
+            return j;
+        }
+        j = wide(next[j]);
+    }
+    j
+}
+
+// One more than the value at j.
+fn one_more(out: &[i32], j: usize) -> i32
+    requires { ⌜ (j < length (now out)) × (getD (now out) j (pos 0) ≤ℤ pos 255) ⌝ }
+    ensures { λ r. ⌜ r ≡ getD (now (out .entry)) j (pos 0) +ℤ pos 1 ⌝ }
+{
+    out[j] + 1
+}
+
+// The least values that have these parent distances, at the front of out.
+pub fn least_realization(ds: &[u32], out: &mut [i32])
+    requires { ⌜ realizable (now ds) ≡ true ⌝ }
+    requires { ⌜ (length (now ds) ≤ 256) × (length (now ds) ≤ length (now out)) ⌝ }
+    ensures { λ _. ⌜ now (out .exit) ≡ leastRealization (now (ds .entry)) ++ drop (length (now (ds .entry))) (now (out .entry)) ⌝ }
+{
+    let n = ds.len();
+    let mut next = [0u32; 256];
+    let mut i = n;
+    while i > 0 {
+        i -= 1;
+        let j = next_lower(ds, &next, i);
+        next[i] = j as u32;
+        if j < n {
+            out[i] = one_more(out, j);
+        } else {
+            out[i] = 0;
+        }
+    }
+}

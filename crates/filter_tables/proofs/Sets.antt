@@ -1,0 +1,129 @@
+-- FILLING A TABLE OF SETS: a rank added at the places that pass its pattern's test makes a table that holds the ranks below r one that holds those below r + 1; and adding a rank place by place adds it at all places that pass.
+use mathlib.Core.Path.{_≡_, refl, sym, _∙_, ap, ap₂}
+use mathlib.Core.Bool.{Bool, true, false, _&&_, _||_}
+use mathlib.Core.List.{List}
+use Prim.Native.Nat.{ℕ, suc, _+_, _-_, _≤_, _<_}
+use native.Mathlib.Omega.{arith}
+use native.Mathlib.Decide.{decLt}
+use borrow.Author.Tests.{lt-ltb, le-ltb, lt-leb, eq-eqb, ne-eqb}
+use lib.Dec.{eqb, ltb, leb}
+use lib.ListN.{length, getD, set, replicate, getD-replicate}
+use lib.Seq.{getD-set-same, getD-set-other}
+use Rattle.bit_sets.specs.BitSets.{bitAt}
+use Rattle.bit_sets.proofs.Digits.{bitAt-none}
+use Rattle.pattern_set.specs.PatternSet.{PatternSet}
+use Rattle.filter_tables.specs.Tables.{ranked, Holds}
+use Rattle.filter_tables.specs.Steps.{Empty, Adds}
+
+and-false : (b : Bool) → (b && false) ≡ false
+and-false true = refl
+and-false false = refl
+
+and-true : (b : Bool) → (b && true) ≡ b
+and-true true = refl
+and-true false = refl
+
+or-false : (b : Bool) → (b || false) ≡ b
+or-false true = refl
+or-false false = refl
+
+-- ---- one place
+
+-- a word that has one member more, in its place
+pub adds-set : (table : List ℕ) (v r w : ℕ) → v < length table → ((s : ℕ) → s < 64 → bitAt w s ≡ (eqb s r || bitAt (getD table v 0) s)) → Adds (eqb v) r table (set table v w)
+adds-set table v r w h f u k s l = go (decLt u v) (decLt v u)
+  where
+    other : (u ≡ v → ⊥) → bitAt (getD (set table v w) u 0) s ≡ ((eqb v u && eqb s r) || bitAt (getD table u 0) s)
+    other d = rw (ne-eqb v u (λ e. d (sym e)), getD-set-other table v u w 0 d) refl
+
+    go : Dec (u < v) → Dec (v < u) → bitAt (getD (set table v w) u 0) s ≡ ((eqb v u && eqb s r) || bitAt (getD table u 0) s)
+    go (yes a) d = other (λ e. let z : ⊥ = omega arith in z)
+    go (no a) (yes b) = other (λ e. let z : ⊥ = omega arith in z)
+    go (no a) (no b) =
+        let e : u ≡ v = omega arith in
+        rw (e, eq-eqb v v refl) (ap (λ (x : ℕ). bitAt x s) (getD-set-same table v w 0 h) ∙ f s l)
+
+-- ---- place by place
+
+adds-ext : (t q : ℕ → Bool) (r : ℕ) (a b : List ℕ) → ((v : ℕ) → v < 256 → t v ≡ q v) → Adds t r a b → Adds q r a b
+adds-ext t q r a b f g v h s l = g v h s l ∙ ap (λ (x : Bool). (x && eqb s r) || bitAt (getD a v 0) s) (f v h)
+
+-- no place passes
+pub adds-none : (test : ℕ → Bool) (r : ℕ) (a : List ℕ) → ((v : ℕ) → v < 256 → test v ≡ false) → Adds test r a a
+adds-none test r a f v h s l = rw (f v h) refl
+
+pub adds-start : (test : ℕ → Bool) (r : ℕ) (a : List ℕ) → Adds (λ u. ltb u 0 && test u) r a a
+adds-start test r a = adds-none (λ u. ltb u 0 && test u) r a (λ v h. rw (le-ltb v 0 (omega arith)) refl)
+
+-- the places from n - 1 on: none below n - 1
+pub adds-from : (n r : ℕ) (a : List ℕ) → 1 ≤ n → Adds (λ u. ltb u (n - 1) && leb n (suc u)) r a a
+adds-from n r a k = adds-none (λ u. ltb u (n - 1) && leb n (suc u)) r a (λ v h. go v (decLt v (n - 1)))
+  where
+    go : (v : ℕ) → Dec (v < n - 1) → (ltb v (n - 1) && leb n (suc v)) ≡ false
+    go v (yes l) = rw (lt-leb n (suc v) (omega arith)) (and-false (ltb v (n - 1)))
+    go v (no f) = rw (le-ltb v (n - 1) (omega arith)) refl
+
+pub adds-step : (test : ℕ → Bool) (r v : ℕ) (a b c : List ℕ) → Adds (λ u. ltb u v && test u) r a b → Adds (eqb v) r b c → test v ≡ true → Adds (λ u. ltb u (v + 1) && test u) r a c
+adds-step test r v a b c f g t =
+    adds-ext (λ u. eqb v u || (ltb u v && test u)) (λ u. ltb u (v + 1) && test u) r a c (λ u h. next u (decLt u v) (decLt v u))
+    (λ u h s l. g u h s l ∙ ap (λ (x : Bool). (eqb v u && eqb s r) || x) (f u h s l) ∙ join (eqb v u) (ltb u v && test u) (eqb s r) (bitAt (getD a u 0) s))
+  where
+    join : (x y e z : Bool) → ((x && e) || ((y && e) || z)) ≡ (((x || y) && e) || z)
+    join true true true z = refl
+    join true true false z = refl
+    join true false true z = refl
+    join true false false z = refl
+    join false true true z = refl
+    join false true false z = refl
+    join false false e z = refl
+
+    next : (u : ℕ) → Dec (u < v) → Dec (v < u) → (eqb v u || (ltb u v && test u)) ≡ (ltb u (v + 1) && test u)
+    next u (yes l) d =
+        rw (ne-eqb v u (λ e. let z : ⊥ = omega arith in z), lt-ltb u v l, lt-ltb u (v + 1) (omega arith)) refl
+    next u (no l) (yes k) =
+        rw (ne-eqb v u (λ e. let z : ⊥ = omega arith in z), le-ltb u v (omega arith), le-ltb u (v + 1) (omega arith)) refl
+    next u (no l) (no k) =
+        let e : u ≡ v = omega arith in
+        rw (e, eq-eqb v v refl, t, lt-ltb v (v + 1) (omega arith)) refl
+
+-- place v does not pass
+pub adds-skip : (test : ℕ → Bool) (r v : ℕ) (a b : List ℕ) → Adds (λ u. ltb u v && test u) r a b → test v ≡ false → Adds (λ u. ltb u (v + 1) && test u) r a b
+adds-skip test r v a b f t =
+    adds-ext (λ u. ltb u v && test u) (λ u. ltb u (v + 1) && test u) r a b (λ u h. next u (decLt u v) (decLt v u)) f
+  where
+    next : (u : ℕ) → Dec (u < v) → Dec (v < u) → (ltb u v && test u) ≡ (ltb u (v + 1) && test u)
+    next u (yes l) d = rw (lt-ltb u v l, lt-ltb u (v + 1) (omega arith)) refl
+    next u (no l) (yes k) = rw (le-ltb u v (omega arith), le-ltb u (v + 1) (omega arith)) refl
+    next u (no l) (no k) = let e : u ≡ v = omega arith in rw (e, t) (and-false (ltb v v) ∙ sym (and-false (ltb v (v + 1))))
+
+pub adds-all : (test : ℕ → Bool) (r v : ℕ) (a b : List ℕ) → 256 ≤ v → Adds (λ u. ltb u v && test u) r a b → Adds test r a b
+adds-all test r v a b h f = adds-ext (λ u. ltb u v && test u) test r a b (λ u k. rw (lt-ltb u v (omega arith)) refl) f
+
+-- ---- rank by rank
+
+-- at each v the set of the patterns of the ranks below n that pass the test
+abbrev pub HoldsBelow : PatternSet → (ℕ → List ℕ → Bool) → ℕ → List ℕ → Type 0
+HoldsBelow ps test n table = (v : ℕ) → v < 256 → (s : ℕ) → s < 64 → bitAt (getD table v 0) s ≡ (ltb s n && test v (ranked ps s))
+
+pub holds-none : (ps : PatternSet) (test : ℕ → List ℕ → Bool) (table : List ℕ) → Empty table → HoldsBelow ps test 0 table
+holds-none ps test table f v h s l = rw (f v h, le-ltb s 0 (omega arith)) (bitAt-none s)
+
+pub holds-more : (ps : PatternSet) (test : ℕ → List ℕ → Bool) (r : ℕ) (a b : List ℕ) (t : ℕ → Bool) → ((v : ℕ) → t v ≡ test v (ranked ps r)) → Adds t r a b → HoldsBelow ps test r a → HoldsBelow ps test (r + 1) b
+holds-more ps test r a b t q f g v h s l =
+    f v h s l ∙ ap₂ (λ (x y : Bool). (x && eqb s r) || y) (q v) (g v h s l) ∙ next (λ u. test v (ranked ps u)) (decLt s r) (decLt r s)
+  where
+    next : (p : ℕ → Bool) → Dec (s < r) → Dec (r < s) → ((p r && eqb s r) || (ltb s r && p s)) ≡ (ltb s (r + 1) && p s)
+    next p (yes k) d =
+        rw (ne-eqb s r (λ e. let z : ⊥ = omega arith in z), lt-ltb s r k, lt-ltb s (r + 1) (omega arith)) (ap (λ (x : Bool). x || p s) (and-false (p r)))
+    next p (no k) (yes m) =
+        rw (ne-eqb s r (λ e. let z : ⊥ = omega arith in z), le-ltb s r (omega arith), le-ltb s (r + 1) (omega arith)) (ap (λ (x : Bool). x || false) (and-false (p r)))
+    next p (no k) (no m) =
+        let e : s ≡ r = omega arith in
+        rw (e, eq-eqb r r refl, le-ltb r r (omega arith), lt-ltb r (r + 1) (omega arith)) (or-false (p r && true) ∙ and-true (p r))
+
+pub holds-all : (ps : PatternSet) (test : ℕ → List ℕ → Bool) (n : ℕ) (table : List ℕ) → n ≡ length ps → HoldsBelow ps test n table → Holds ps test table
+holds-all ps test n table e f v h r l = f v h r l ∙ ap (λ (k : ℕ). ltb r k && test v (ranked ps r)) e
+
+-- an array of zeros holds nothing
+pub empty-zeros : Empty (replicate 256 0)
+empty-zeros v h = getD-replicate 256 v 0 0 h

@@ -1,0 +1,186 @@
+-- Heads are closed under shortening, and the suffixes of a text that have the tree of some head are a chain that the failure links enumerate:
+-- a tail of a head is a suffix of every text that ends with the head's tree.
+use mathlib.Core.Path.{_≡_, refl, sym, _∙_, ap, ap₂, subst}
+use mathlib.Core.Bool.{Bool, true, false, cond}
+use mathlib.Core.Logic.{_↔_}
+use mathlib.Core.List.{List, [], _∷_, _++_, map}
+use Prim.Native.Nat.{ℕ, zero, suc, pred, _+_, _-_, _≤_, _<_, min}
+use native.Mathlib.Omega.{arith}
+use native.Mathlib.Nat.{le-refl}
+use native.Mathlib.Decide.{decLt}
+use lib.Dec.{T, eqb·suc-zero}
+use lib.IntN.{ℤ, pos}
+use lib.ListN.{length, getD, take, drop, length-take, drop-of-length-le}
+use lib.Seq.{take-take, take-all, take-nil}
+use Rattle.lists.specs.Lists.{any, all, begins, same, lastBelow, lastOf}
+use Rattle.lists.proofs.Order.{T-true, true-T}
+use Rattle.lists.proofs.Lists.{any-mem, mem-any, all-mem, any-ext, test-ext, same-eq, eq-same, length-lastOf, lastOf-lastOf, lastOf-all, lastBelow-ext, lastBelow-le, lastBelow-passes, lastBelow-is, lastBelow-none}
+use Rattle.cartesian.specs.Tree.{Tree, leaf, treeWithin, tree, sameTree}
+use Rattle.cartesian.specs.Distances.{distances, suffixDistances}
+use Rattle.cartesian.specs.TreeOf.{treeOfWithin, treeOf}
+use Rattle.cartesian.proofs.Seek.{length-distances}
+use Rattle.cartesian.proofs.ByList.{distances-take}
+use Rattle.cartesian.proofs.Matching.{trees-iff-distances, sameTree-eq, eq-sameTree}
+use Rattle.cartesian.proofs.Window.{distances-lastOf}
+use Rattle.cartesian.proofs.TreeOf.{treeOf-distances}
+use Rattle.realization.specs.Realizable.{Realizable, realizable}
+use Rattle.realization.specs.LeastRealization.{leastRealization}
+use Rattle.realization.proofs.Realizable.{realizable-iff}
+use Rattle.realization.proofs.LeastRealization.{least-distances, length-least}
+use Rattle.pattern_set.specs.PatternSet.{PatternSet}
+use Rattle.matching.specs.Hits.{hasTree}
+use Rattle.matching.specs.Heads.{isHead, headTree, failure, chainWithin, chain, headLengths}
+
+-- ---- shortening
+
+-- a prefix of a realizable list is realizable
+pub realizable-take : (n : ℕ) (ds : List ℕ) → T (realizable ds) → T (realizable (take n ds))
+unfolding Realizable
+realizable-take n ds h =
+    let p = realizable-iff ds .0 h in
+    realizable-iff (take n ds) .1 (take n (p .0), distances-take n (p .0) ∙ ap (take n) (p .1))
+
+pub distances-realizable : (xs : List ℤ) → T (realizable (distances xs))
+unfolding Realizable
+distances-realizable xs = realizable-iff (distances xs) .1 (xs, refl)
+
+begins-shorter : (p h : List ℕ) (n : ℕ) → T (begins p h) → T (begins p (take n h))
+begins-shorter p h n t =
+    let e = same-eq (take (length h) p) h t in
+    eq-same (take (length (take n h)) p) (take n h)
+    (sym (take-take (length (take n h)) (length h) p (rw length-take (omega arith))) ∙ ap (take (length (take n h))) e ∙ go h n)
+  where
+    go : (h : List ℕ) (n : ℕ) → take (length (take n h)) h ≡ take n h
+    go [] n = simp take-nil
+    go (x ∷ h) zero = refl
+    go (x ∷ h) (suc n) = ap (λ (l : List ℕ). x ∷ l) (go h n)
+
+-- HEADS ARE CLOSED UNDER SHORTENING
+pub head-shorter : (ps : PatternSet) (h : List ℕ) (n : ℕ) → T (isHead ps h) → T (isHead ps (take n h))
+unfolding isHead
+head-shorter ps h n t =
+    let r = any-mem (λ p. begins p h) ps t in
+    mem-any (λ p. begins p (take n h)) ps (r .0) (r .1) (begins-shorter (r .0) h n (r .2))
+
+-- ---- by trees and by distances
+
+-- a window has the tree of a realizable list exactly if it has these distances
+pub hasTree-iff : (window : List ℤ) (ds : List ℕ) → T (realizable ds) → T (hasTree window ds) ↔ (distances window ≡ ds)
+unfolding hasTree Realizable
+hasTree-iff w ds h =
+    let p = realizable-iff ds .0 h in
+    let e : treeOf ds ≡ tree (p .0) = ap treeOf (sym (p .1)) ∙ treeOf-distances (p .0) in (
+      λ t. trees-iff-distances w (p .0) .0 (sameTree-eq (tree w) (treeOf ds) t ∙ e) ∙ p .1,
+      λ q. eq-sameTree (tree w) (treeOf ds) (trees-iff-distances w (p .0) .1 (q ∙ sym (p .1)) ∙ sym e),
+    )
+
+-- a window has the tree of some head exactly if its distances are a head
+pub headTree-isHead : (ps : PatternSet) (window : List ℤ) → T (all realizable ps) → headTree ps window ≡ isHead ps (distances window)
+unfolding headTree isHead
+headTree-isHead ps w g =
+    test-ext (any (λ p. hasTree w (take (length w) p)) ps) (any (λ p. begins p (distances w)) ps)
+    (λ t.
+    let r = any-mem (λ p. hasTree w (take (length w) p)) ps t in
+    let z = realizable-take (length w) (r .0) (all-mem realizable ps g (r .0) (r .1)) in
+    mem-any (λ p. begins p (distances w)) ps (r .0) (r .1)
+    (eq-same (take (length (distances w)) (r .0)) (distances w) (rw length-distances (sym (hasTree-iff w (take (length w) (r .0)) z .0 (r .2))))))
+    (λ t.
+    let r = any-mem (λ p. begins p (distances w)) ps t in
+    let z = realizable-take (length w) (r .0) (all-mem realizable ps g (r .0) (r .1)) in
+    let e : take (length w) (r .0) ≡ distances w = subst (λ (k : ℕ). take k (r .0) ≡ distances w) (length-distances w) (same-eq (take (length (distances w)) (r .0)) (distances w) (r .2)) in
+    mem-any (λ p. hasTree w (take (length w) p)) ps (r .0) (r .1)
+    (hasTree-iff w (take (length w) (r .0)) z .1 (sym e)))
+
+-- windows with equal distances agree on heads
+pub headTree-same : (ps : PatternSet) (v w : List ℤ) → distances v ≡ distances w → headTree ps v ≡ headTree ps w
+unfolding headTree hasTree
+headTree-same ps v w e =
+    let t = trees-iff-distances v w .1 e in
+    let n : length v ≡ length w = sym (length-distances v) ∙ ap length e ∙ length-distances w in
+    rw (t, n) refl
+
+-- ---- the failure link of a suffix
+
+-- the length of the longest suffix of fewer than n values that has the tree of some head
+abbrev pub longestBelow : PatternSet → List ℤ → ℕ → ℕ
+longestBelow ps text n = pred (lastBelow (λ m. headTree ps (lastOf m text)) n)
+
+-- suffixes of lists with equal distances have equal distances
+suffix-same : (v w : List ℤ) (m : ℕ) → distances v ≡ distances w → distances (lastOf m v) ≡ distances (lastOf m w)
+suffix-same v w m e = distances-lastOf m v ∙ ap (suffixDistances m) e ∙ sym (distances-lastOf m w)
+
+-- THE FAILURE LINK of the head that a suffix of the text has leads to the next shorter suffix that has one
+pub failure-next : (ps : PatternSet) (text : List ℤ) (n : ℕ) → n ≤ length text → failure ps (distances (lastOf n text)) ≡ distances (lastOf (longestBelow ps text n) text)
+unfolding failure
+failure-next ps text n h =
+    let w = lastOf n text in
+    let xs = leastRealization (distances w) in
+    let e : distances xs ≡ distances w = least-distances (distances w) (distances-realizable w) in
+    let l : length (distances w) ≡ n = length-distances w ∙ length-lastOf n text h in
+    let same-below : (m : ℕ) → m ≤ n → distances (lastOf m xs) ≡ distances (lastOf m text) = λ m k. suffix-same xs w m e ∙ ap distances (lastOf-lastOf m n text k) in
+    let f : lastBelow (λ m. headTree ps (lastOf m xs)) (length (distances w)) ≡ lastBelow (λ m. headTree ps (lastOf m text)) n =
+    ap (lastBelow (λ m. headTree ps (lastOf m xs))) l
+    ∙ lastBelow-ext (λ m. headTree ps (lastOf m xs)) (λ m. headTree ps (lastOf m text)) n (λ m k. headTree-same ps (lastOf m xs) (lastOf m text) (same-below m (omega arith))) in
+    ap (λ (m : ℕ). distances (lastOf (pred m) xs)) f
+    ∙ same-below (longestBelow ps text n) (below (lastBelow (λ m. headTree ps (lastOf m text)) n) (lastBelow-le (λ m. headTree ps (lastOf m text)) n))
+  where
+    below : (q : ℕ) → q ≤ n → pred q ≤ n
+    below q k = omega arith
+
+-- ---- the chain
+
+-- the longest suffix shorter than a non-empty one has some head: the empty one at least
+empty-head : (ps : PatternSet) (text : List ℤ) → T (headTree ps (lastOf 0 text)) → (n : ℕ) → 0 < n → (q : ℕ) × (lastBelow (λ m. headTree ps (lastOf m text)) n ≡ suc q)
+empty-head ps text t n h = go (lastBelow (λ m. headTree ps (lastOf m text)) n) refl
+  where
+    go : (k : ℕ) → lastBelow (λ m. headTree ps (lastOf m text)) n ≡ k → (q : ℕ) × (lastBelow (λ m. headTree ps (lastOf m text)) n ≡ suc q)
+    go zero e = absurd (lastBelow-none (λ m. headTree ps (lastOf m text)) n 0 (let z : lastBelow (λ m. headTree ps (lastOf m text)) n ≤ 0 = omega arith in z) h t)
+    go (suc q) e = (q, e)
+
+-- the lengths of at most n begin with the longest of them
+headLengths-from : (ps : PatternSet) (text : List ℤ) (n q : ℕ) → lastBelow (λ m. headTree ps (lastOf m text)) (suc n) ≡ suc q → headLengths ps text n ≡ headLengths ps text q
+unfolding headLengths lastBelow
+headLengths-from ps text zero q e = go (headTree ps (lastOf 0 text)) e
+  where
+    go : (b : Bool) → cond b 1 0 ≡ suc q → headLengths ps text 0 ≡ headLengths ps text q
+    go true r = ap (headLengths ps text) (let z : 0 ≡ q = omega arith in z)
+    go false r = absurd (let z : ⊥ = omega arith in z)
+headLengths-from ps text (suc n) q e = go (headTree ps (lastOf (suc n) text)) refl e (headLengths-from ps text n q)
+  where
+    go : (b : Bool) → headTree ps (lastOf (suc n) text) ≡ b → cond b (suc (suc n)) (lastBelow (λ m. headTree ps (lastOf m text)) (suc n)) ≡ suc q
+        → (lastBelow (λ m. headTree ps (lastOf m text)) (suc n) ≡ suc q → headLengths ps text n ≡ headLengths ps text q)
+        → cond b (suc n ∷ headLengths ps text n) (headLengths ps text n) ≡ headLengths ps text q
+    go true f r ih =
+        let z : q ≡ suc n = omega arith in
+        rw (z, f) refl
+    go false f r ih = ih r
+
+-- the empty window has the empty head of any pattern
+pub empty-headTree : (ps : PatternSet) → 0 < length ps → T (headTree ps [])
+unfolding headTree hasTree any sameTree tree treeWithin treeOf treeOfWithin
+empty-headTree [] h = absurd (let z : ⊥ = omega arith in z)
+empty-headTree (p ∷ ps) h = tt
+
+chain-within : (ps : PatternSet) (text : List ℤ) → T (headTree ps (lastOf 0 text)) → (k n : ℕ) → n ≤ k → n ≤ length text → T (headTree ps (lastOf n text))
+    → chainWithin k ps (distances (lastOf n text)) ≡ map (λ m. distances (lastOf m text)) (headLengths ps text n)
+unfolding chainWithin headLengths
+chain-within ps text z zero zero l h t = refl
+chain-within ps text z zero (suc n) l h t = absurd (let y : ⊥ = omega arith in y)
+chain-within ps text z (suc k) zero l h t =
+    rw (length-distances (lastOf 0 text), length-lastOf 0 text (omega arith)) refl
+chain-within ps text z (suc k) (suc n) l h t =
+    let r = empty-head ps text z (suc n) (omega arith) in
+    let q = r .0 in
+    let b = lastBelow-le (λ m. headTree ps (lastOf m text)) (suc n) in
+    let f : failure ps (distances (lastOf (suc n) text)) ≡ distances (lastOf q text) = failure-next ps text (suc n) h ∙ ap (λ (m : ℕ). distances (lastOf (pred m) text)) (r .1) in
+    let ih = chain-within ps text z k q (omega (arith, r .1)) (omega (arith, r .1)) (lastBelow-passes (λ m. headTree ps (lastOf m text)) (suc n) q (r .1)) in
+    rw (length-distances (lastOf (suc n) text), length-lastOf (suc n) text h, eqb·suc-zero n, true-T (headTree ps (lastOf (suc n) text)) t, headLengths-from ps text n q (r .1), f)
+    (ap (λ (l : List (List ℕ)). distances (lastOf (suc n) text) ∷ l) ih)
+
+-- THE CHAIN: the suffixes of a text, of at most n values, that have the tree of some head are those that the failure links enumerate, from the one of n values on
+pub chain-is : (ps : PatternSet) (text : List ℤ) (n : ℕ) → 0 < length ps → n ≤ length text → T (headTree ps (lastOf n text))
+    → chain ps (distances (lastOf n text)) ≡ map (λ m. distances (lastOf m text)) (headLengths ps text n)
+chain-is ps text n g h t =
+    let e : lastOf 0 text ≡ [] = drop-of-length-le text {i = length text - 0} (omega arith) in
+    rw (length-distances (lastOf n text), length-lastOf n text h)
+    (chain-within ps text (rw e (empty-headTree ps g)) n n (le-refl n) h t)

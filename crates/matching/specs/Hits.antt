@@ -1,0 +1,38 @@
+-- Search hits, by trees of windows. Document 01: Hits of R; the order of a search's list.
+use Rattle.lists.specs.Prelude.{Bool, cond, List, [], _∷_, _++_, map, flatten, ℕ, zero, suc, ℤ, length, take}
+use Rattle.lists.specs.Lists.{tabulate, lastOf}
+use Rattle.cartesian.specs.Tree.{tree, sameTree}
+use Rattle.cartesian.specs.TreeOf.{treeOf}
+use Rattle.pattern_set.specs.PatternSet.{PatternSet}
+
+-- the window has the tree of the pattern
+unfoldable pub hasTree : List ℤ → List ℕ → Bool
+hasTree window p = sameTree (tree window) (treeOf p)
+
+-- the numbers of the patterns, the first of which has number j, that have the tree of the window, lower number first
+unfoldable pub numbersFrom : ℕ → List ℤ → PatternSet → List ℕ
+numbersFrom j window [] = []
+numbersFrom j window (p ∷ ps) =
+    cond (hasTree window p) (j ∷ numbersFrom (suc j) window ps) (numbersFrom (suc j) window ps)
+
+-- the numbers of the patterns that have the tree of one of the windows of at most n values at the end of the text, longer window first
+unfoldable pub endHits : PatternSet → List ℤ → ℕ → List ℕ
+endHits ps text zero = []
+endHits ps text (suc n) = numbersFrom 0 (lastOf (suc n) text) ps ++ endHits ps text n
+
+-- the numbers of the patterns with a hit at the last place of the text
+abbrev pub lastHits : PatternSet → List ℤ → List ℕ
+lastHits ps text = endHits ps text (length text)
+
+-- the hits with last place p
+unfoldable pub hitsAt : PatternSet → List ℤ → ℕ → List (ℕ × ℕ)
+hitsAt ps text p = map (λ j. (p, j)) (lastHits ps (take (suc p) text))
+
+-- the hits of a text: last place and pattern number; by last place, longer pattern first, then lower number
+unfoldable pub hits : PatternSet → List ℤ → List (ℕ × ℕ)
+hits ps text = flatten (tabulate (length text) (hitsAt ps text))
+
+-- two words a hit
+unfoldable pub hitWords : List (ℕ × ℕ) → List ℕ
+hitWords [] = []
+hitWords (h ∷ hs) = h .0 ∷ h .1 ∷ hitWords hs

@@ -1,0 +1,41 @@
+-- `failure_lengths` meets its contract: where the check of the list refuses, nothing is written; else the list is realizable, and the words are those that
+-- `compute_failures::failure_lengths` writes.
+use borrow.Author.Needs.{needs}
+use lib.ListN.{length}
+use Rattle.pattern.proofs.Laws.{refused, written, checked-refused, checked-good, list-unmet, length-failureLengths}
+use Rattle.pattern.proofs.failure_lengths.Statement.{statement}
+use Rattle.pattern.proofs.failure_lengths.Tie as tie
+
+check-list-requires : tie.Need-check-list-requires
+check-list-requires c κs = search needs
+
+enum-known-checked : tie.Need-enum-known-checked
+enum-known-checked c = search needs
+
+enum-told : tie.Need-enum-told
+enum-told c = search needs
+
+failure-lengths-requires : tie.Need-failure-lengths-requires
+failure-lengths-requires c κs =
+    let q = c .before .before .before in
+    let a = q .before .before .before .args in
+    list-unmet (a .ds .now) (length (a .out .now)) (checked-good _ _ (q .check-list .ensures) (c .before .enum-told .given .1))
+
+returns : tie.Need-returns
+returns c =
+    let q = c .before .before .before in
+    refused (c .before .checked .given .0 .0) _ _ _ _ (checked-refused _ _ _ (q .check-list .ensures) (c .before .checked .given .1))
+
+same-length : tie.Need-same-length
+same-length c = search needs
+
+returns-2 : tie.Need-returns-2
+returns-2 c =
+    let w = c .before .before in
+    let q = w .before .before .before .before in
+    let a = q .before .before .before .args in
+    let e = checked-good _ _ (q .check-list .ensures) (w .before .before .enum-told .given .1) in
+    written _ _ _ _ _ e (length-failureLengths (a .ds .now)) (w .failure-lengths .ensures)
+
+pub failure-lengths-spec : {M : Type 1} → statement M
+failure-lengths-spec = tie.close (tie.spec check-list-requires enum-known-checked enum-told failure-lengths-requires returns same-length returns-2)

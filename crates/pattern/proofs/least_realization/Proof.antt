@@ -1,0 +1,41 @@
+-- `least_realization` meets its contract: where the check of the list refuses, nothing is written; else the list is realizable, and the values are those that
+-- `compute_realization::least_realization` writes.
+use borrow.Author.Needs.{needs}
+use lib.ListN.{length}
+use Rattle.pattern.proofs.Laws.{refused, written, checked-refused, checked-good, list-unmet, length-leastRealization}
+use Rattle.pattern.proofs.least_realization.Statement.{statement}
+use Rattle.pattern.proofs.least_realization.Tie as tie
+
+check-list-requires : tie.Need-check-list-requires
+check-list-requires c κs = search needs
+
+enum-known-checked : tie.Need-enum-known-checked
+enum-known-checked c = search needs
+
+enum-told : tie.Need-enum-told
+enum-told c = search needs
+
+least-realization-requires : tie.Need-least-realization-requires
+least-realization-requires c κs =
+    let q = c .before .before .before in
+    let a = q .before .before .args in
+    list-unmet (a .ds .now) (length (a .out .now)) (checked-good _ _ (q .check-list .ensures) (c .before .enum-told .given .1))
+
+returns : tie.Need-returns
+returns c =
+    let q = c .before .before .before in
+    refused (c .before .checked .given .0 .0) _ _ _ _ (checked-refused _ _ _ (q .check-list .ensures) (c .before .checked .given .1))
+
+same-length : tie.Need-same-length
+same-length c = search needs
+
+returns-2 : tie.Need-returns-2
+returns-2 c =
+    let w = c .before in
+    let q = w .before .before .before .before in
+    let a = q .before .before .args in
+    let e = checked-good _ _ (q .check-list .ensures) (w .before .before .enum-told .given .1) in
+    written _ _ _ _ _ e (length-leastRealization (a .ds .now) (list-unmet (a .ds .now) (length (a .out .now)) e .0)) (w .least-realization .ensures)
+
+pub least-realization-spec : {M : Type 1} → statement M
+least-realization-spec = tie.close (tie.spec check-list-requires enum-known-checked enum-told least-realization-requires returns same-length returns-2)

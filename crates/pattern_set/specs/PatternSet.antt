@@ -1,0 +1,36 @@
+-- Sets of patterns and the words they lie in. Document 01: Set.
+use Rattle.lists.specs.Prelude.{Bool, cond, _&&_, List, [], _∷_, _++_, flatten, Option, none, some, ℕ, _+_, _-_, leb, length, getD, take, drop}
+use Rattle.lists.specs.Lists.{tabulate, all, begins}
+use Rattle.realization.specs.Realizable.{realizable}
+
+-- the patterns' distance lists; a pattern's number is its place
+abbrev pub PatternSet : Type 0
+PatternSet = List (List ℕ)
+
+-- where each pattern starts, counted from o, and last where the last one ends
+unfoldable pub offsets : ℕ → PatternSet → List ℕ
+offsets o [] = o ∷ []
+offsets o (p ∷ ps) = o ∷ offsets (o + length p) ps
+
+-- the number of patterns, the number of distances, the offsets, the distances
+unfoldable pub setWords : PatternSet → List ℕ
+setWords ps = length ps ∷ length (flatten ps) ∷ (offsets 0 ps ++ flatten ps)
+
+unfoldable pub goodPattern : List ℕ → Bool
+goodPattern p = leb 1 (length p) && leb (length p) 256 && realizable p
+
+unfoldable pub goodSet : PatternSet → Bool
+goodSet ps = leb (length ps) 64 && leb (length (flatten ps)) 4096 && all goodPattern ps
+
+-- pattern j as the array's first words tell of it, whatever they are
+unfoldable pub patternIn : List ℕ → ℕ → List ℕ
+patternIn ws j =
+    let start = getD ws (2 + j) 0 in
+    take (getD ws (3 + j) 0 - start) (drop (3 + getD ws 0 0 + start) ws)
+
+abbrev pub patternsIn : List ℕ → PatternSet
+patternsIn ws = tabulate (getD ws 0 0) (patternIn ws)
+
+-- the set with whose words an array begins, if there is a good one (law `readSet-iff`)
+unfoldable pub readSet : List ℕ → Option PatternSet
+readSet ws = cond (goodSet (patternsIn ws) && begins ws (setWords (patternsIn ws))) (some (patternsIn ws)) none

@@ -1,0 +1,4 @@
+-- The root of the crate's laws.
+pub mod LeftTurns
+pub mod Realizable
+pub mod LeastRealization

@@ -1,0 +1,238 @@
+-- THE RUN THEOREM (demand 3). Each call keeps the state that of a search over the text taken so far, and is seen as the reference sees it; one
+-- induction over the list of calls gives the rest.
+use mathlib.Core.Path.{_≡_, refl, sym, _∙_, ap, ap₂, subst}
+use mathlib.Core.Bool.{Bool, true, false, cond, not}
+use mathlib.Core.Option.{Option, none, some}
+use mathlib.Core.List.{List, [], _∷_, _++_, flatten, append-assoc, append-nil}
+use Prim.Native.Nat.{ℕ, zero, suc, _+_, _*_, _-_, _≤_, _<_}
+use native.Mathlib.Omega.{arith}
+use borrow.Author.Tests.{ne-eqb, le-ltb, ltb-false}
+use lib.Dec.{T, eqb, ltb}
+use lib.IntN.{ℤ, pos}
+use lib.ListN.{length, take, drop}
+use lib.Seq.{take-at}
+use Rattle.lists.specs.Lists.{begins, tabulate}
+use Rattle.lists.proofs.Order.{true-T, T-true}
+use Rattle.answers.specs.declared.SearchState.{SearchState}
+use Rattle.answers.specs.NewSearch.{newSearch}
+use Rattle.pattern_set.specs.PatternSet.{PatternSet, goodSet, setWords, readSet}
+use Rattle.pattern_set.proofs.ReadSet.{readSet-iff, readSet-words}
+use Rattle.matching.specs.Hits.{hits, hitWords}
+use Rattle.model.specs.Refusals.{firstMet, leave, tellTwo}
+use Rattle.model.specs.SetEntries.{isBroken, setOf, isUnsearchable}
+use Rattle.model.specs.AutomatonWords.{automatonWords}
+use Rattle.model.specs.State.{goodState}
+use Rattle.model.specs.Step.{Called, call}
+use Rattle.model.specs.SearchEntries.{streamRefusal, streamCall, Told, tellCalled, handBack, candidates, filterTold, filterAfter}
+use Rattle.model.specs.ReferenceRun.{Call, Seen, seenOf, read, isLent, runRefusal, referenceCall, reference, taken}
+use Rattle.model.specs.Observed.{refusalOf, observeCall, nextState, observe, lastState, RefusedUnless, Admitted, longestHead}
+use Rattle.model.proofs.Refusals.{first-unmet}
+use Rattle.runs.specs.RunTheorem.{toldOr0, written, attemptsOf, NeverRefused, Run, RunTheorem}
+use Rattle.runs.proofs.LongestHead.{longestHead-le}
+use Rattle.runs.proofs.Step.{Represents, node-reached, new-represents, represents-good}
+use Rattle.runs.proofs.Call.{Agrees, call-reads}
+
+-- ---- hit words
+
+pub length-hitWords : (hs : List (ℕ × ℕ)) → length (hitWords hs) ≡ 2 * length hs
+unfolding hitWords
+length-hitWords [] = refl
+length-hitWords (h ∷ hs) = omega (arith, length-hitWords hs)
+
+pub hitWords-append : (hs gs : List (ℕ × ℕ)) → hitWords (hs ++ gs) ≡ hitWords hs ++ hitWords gs
+unfolding hitWords
+hitWords-append [] gs = refl
+hitWords-append (h ∷ hs) gs = ap (λ (l : List ℕ). h .0 ∷ h .1 ∷ l) (hitWords-append hs gs)
+
+no-hits : (ps : PatternSet) → hitWords (hits ps []) ≡ []
+unfolding hits hitWords tabulate flatten
+no-hits ps = refl
+
+-- ---- what a call does, by its refusal
+
+abbrev calledOf : SearchState → Call → Called SearchState
+calledOf st k = streamCall (k .set) st (k .values) (k .hits)
+
+-- what is seen of a call that is lent the set, and of one that is not
+seen-lent : {S : Type 0} (ps : PatternSet) (n : ℕ) (r : Called S) (k : Call) → isLent ps k ≡ true
+    → seenOf ps n r k ≡ record { told = some (tellCalled n r); after = leave n (hitWords (r .hits)) (k .hits) }
+seen-lent ps n r k e = rw e refl
+
+seen-other : {S : Type 0} (ps : PatternSet) (n : ℕ) (r : Called S) (k : Call) → isLent ps k ≡ false → seenOf ps (suc n) r k ≡ record { told = none; after = k .hits }
+seen-other ps n r k e = rw e refl
+
+reference-lent : (ps : PatternSet) (text : List ℤ) (k : Call) (n : ℕ) → isLent ps k ≡ true → runRefusal ps text k ≡ n
+    → referenceCall ps text k ≡ (seenOf ps n (read ps text (length (k .hits)) (k .values)) k, handBack n (read ps text (length (k .hits)) (k .values)) text)
+unfolding referenceCall
+reference-lent ps text k n e f =
+    ap (λ (b : Bool). (seenOf ps (cond b (runRefusal ps text k) 1) (read ps text (length (k .hits)) (k .values)) k, handBack (cond b (runRefusal ps text k) 1) (read ps text (length (k .hits)) (k .values)) text)) e
+    ∙ ap (λ (m : ℕ). (seenOf ps m (read ps text (length (k .hits)) (k .values)) k, handBack m (read ps text (length (k .hits)) (k .values)) text)) f
+
+reference-other : (ps : PatternSet) (text : List ℤ) (k : Call) → isLent ps k ≡ false
+    → referenceCall ps text k ≡ (record { told = none; after = k .hits }, text)
+unfolding referenceCall
+reference-other ps text k e = rw e refl
+
+-- 8 is none of the reference's refusals
+not-eight : (a b c : Bool) → firstMet ((7, a) ∷ (9, b) ∷ (10, c) ∷ []) ≡ 8 → ⊥
+not-eight true b c e = omega arith
+not-eight false true c e = omega arith
+not-eight false false true e = omega arith
+not-eight false false false e = omega arith
+
+-- ---- one call
+
+-- what one call is, from a state that represents the text
+record OneCall (ps : PatternSet) (text : List ℤ) (st : SearchState) (k : Call) : Type 0 where
+  same : observeCall ps st k ≡ referenceCall ps text k .0
+  state : Represents ps (referenceCall ps text k .1) (nextState st k)
+  limit : length (referenceCall ps text k .1) ≤ 1048576
+  longer : length text ≤ length (referenceCall ps text k .1)
+  never : toldOr0 (λ t. t .0) (observeCall ps st k .told) ≡ 8 → ⊥
+  bound : toldOr0 (λ t. t .4) (observeCall ps st k .told) + longestHead ps (referenceCall ps text k .1) + 2 * length text ≤ longestHead ps text + 2 * length (referenceCall ps text k .1)
+  list : hitWords (hits ps (referenceCall ps text k .1)) ≡ hitWords (hits ps text) ++ take (2 * toldOr0 (λ t. t .3) (observeCall ps st k .told)) (observeCall ps st k .after)
+
+-- one call is told by what is seen of it and by the text after it
+one-by : (ps : PatternSet) (text : List ℤ) (st : SearchState) (k : Call) (s : Seen) (more : List ℤ)
+    → observeCall ps st k ≡ s → referenceCall ps text k ≡ (s, more) → Represents ps more (nextState st k) → length more ≤ 1048576 → length text ≤ length more
+    → (toldOr0 (λ t. t .0) (s .told) ≡ 8 → ⊥) → toldOr0 (λ t. t .4) (s .told) + longestHead ps more + 2 * length text ≤ longestHead ps text + 2 * length more
+    → hitWords (hits ps more) ≡ hitWords (hits ps text) ++ take (2 * toldOr0 (λ t. t .3) (s .told)) (s .after) → OneCall ps text st k
+one-by ps text st k s more o q r l m v b w =
+    let e : referenceCall ps text k .1 ≡ more = ap (λ (p : Seen × List ℤ). p .1) q in
+    record {
+      same = o ∙ sym (ap (λ (p : Seen × List ℤ). p .0) q);
+      state = subst (λ (t : List ℤ). Represents ps t (nextState st k)) (sym e) r;
+      limit = rw e l;
+      longer = rw e m;
+      never = λ d. v (ap (λ (t : Seen). toldOr0 (λ t. t .0) (t .told)) (sym o) ∙ d);
+      bound = subst (λ (t : Seen). toldOr0 (λ t. t .4) (t .told) + longestHead ps (referenceCall ps text k .1) + 2 * length text ≤ longestHead ps text + 2 * length (referenceCall ps text k .1)) (sym o) (rw e b);
+      list = subst (λ (t : Seen). hitWords (hits ps (referenceCall ps text k .1)) ≡ hitWords (hits ps text) ++ take (2 * toldOr0 (λ t. t .3) (t .told)) (t .after)) (sym o) (rw e w);
+    }
+
+module _ (ps : PatternSet) (g : T (goodSet ps)) (z : 0 < length ps) where
+  read-lent : (k : Call) → isLent ps k ≡ true → readSet (k .set) ≡ some ps
+  read-lent k e = readSet-iff (k .set) ps .1 (g, T-true (isLent ps k) e)
+
+  -- under the set the refusals are the reference's: 1, 5 and 8 never hold, and 9 is as counted from the text
+  refusal-same : (text : List ℤ) (st : SearchState) (k : Call) → Represents ps text st → length text ≤ 1048576 → isLent ps k ≡ true → refusalOf st k ≡ runRefusal ps text k
+  unfolding streamRefusal
+  refusal-same text st k r l e =
+      rw (read-lent k e, ne-eqb (length ps) 0 (λ q. let w : ⊥ = omega arith in w), true-T (goodState ps st) (represents-good ps g z text st r l), r .minima .count) refl
+
+  -- a call lent another set is refused and changes nothing
+  one-other : (text : List ℤ) (st : SearchState) (k : Call) (n : ℕ) → Represents ps text st → length text ≤ 1048576 → isLent ps k ≡ false → refusalOf st k ≡ suc n → OneCall ps text st k
+  one-other text st k n r l e f =
+      one-by ps text st k (record { told = none; after = k .hits }) text
+      (ap (λ (m : ℕ). seenOf ps m (calledOf st k) k) f ∙ seen-other ps n (calledOf st k) k e)
+      (reference-other ps text k e)
+      (subst (Represents ps text) (sym (ap (λ (m : ℕ). handBack m (calledOf st k) st) f)) r)
+      l (omega arith) (λ d. let w : ⊥ = omega arith in w) (omega arith) (sym (append-nil (hitWords (hits ps text))))
+
+  -- a refused call under the set changes nothing
+  one-refused : (text : List ℤ) (st : SearchState) (k : Call) (n : ℕ) → Represents ps text st → length text ≤ 1048576 → isLent ps k ≡ true → runRefusal ps text k ≡ suc n → OneCall ps text st k
+  one-refused text st k n r l e f =
+      let R = read ps text (length (k .hits)) (k .values) in
+      let m : refusalOf st k ≡ suc n = refusal-same text st k r l e ∙ f in
+      one-by ps text st k (record { told = some (suc n, 0, 0, 0, 0); after = k .hits }) text
+      (ap (λ (i : ℕ). seenOf ps i (calledOf st k) k) m ∙ seen-lent ps (suc n) (calledOf st k) k e)
+      (reference-lent ps text k (suc n) e f ∙ ap (λ (s : Seen). (s, text)) (seen-lent ps (suc n) R k e))
+      (subst (Represents ps text) (sym (ap (λ (i : ℕ). handBack i (calledOf st k) st) m)) r)
+      l (omega arith)
+      (λ d. not-eight (not (begins (k .automaton) (automatonWords ps))) (ltb 1048576 (length text + length (k .values))) (ltb (length (k .hits)) (2 * length ps)) (f ∙ d))
+      (omega arith) (sym (append-nil (hitWords (hits ps text))))
+
+  one-accepted : (text : List ℤ) (st : SearchState) (k : Call) → Represents ps text st → length text ≤ 1048576 → isLent ps k ≡ true → runRefusal ps text k ≡ 0 → OneCall ps text st k
+  one-accepted text st k r l e f =
+      let R = read ps text (length (k .hits)) (k .values) in
+      let C = call ps st (length (k .hits)) (k .values) in
+      let A : Agrees ps text (length (k .values)) C R = call-reads ps g z (k .values) text st (length (k .hits)) r in
+      let c : calledOf st k ≡ C = ap (λ (o : Option PatternSet). call (setOf o) st (length (k .hits)) (k .values)) (read-lent k e) in
+      let n : refusalOf st k ≡ 0 = refusal-same text st k r l e ∙ f in
+      let fits = fits-limit (not (begins (k .automaton) (automatonWords ps))) (length text + length (k .values)) (ltb (length (k .hits)) (2 * length ps)) f in
+      one-by ps text st k (record { told = some (0, R .ended, R .taken, length (R .hits), R .attempts); after = hitWords (R .hits) ++ drop (length (hitWords (R .hits))) (k .hits) }) (R .state)
+      (ap (λ (i : ℕ). seenOf ps i (calledOf st k) k) n ∙ ap (λ (d : Called SearchState). seenOf ps 0 d k) c ∙ seen-lent ps 0 C k e ∙ same-seen text (length (k .values)) C R k A)
+      (reference-lent ps text k 0 e f ∙ ap (λ (s : Seen). (s, R .state)) (seen-lent ps 0 R k e))
+      (subst (Represents ps (R .state)) (sym (ap (λ (i : ℕ). handBack i (calledOf st k) st) n ∙ ap (λ (d : Called SearchState). d .state) c)) (A .state))
+      (omega (arith, A .longer, A .within, fits)) (omega (arith, A .longer)) (λ d. let w : ⊥ = omega arith in w) (omega (arith, A .bound, A .longer))
+      (ap hitWords (A .more) ∙ hitWords-append (hits ps text) (R .hits)
+      ∙ ap (λ (v : List ℕ). hitWords (hits ps text) ++ v) (sym (take-at (hitWords (R .hits)) (drop (length (hitWords (R .hits))) (k .hits)) (2 * length (R .hits)) (length-hitWords (R .hits)))))
+    where
+      same-seen : (text : List ℤ) (limit : ℕ) (c : Called SearchState) (r : Called (List ℤ)) (k : Call) → Agrees ps text limit c r
+          → _≡_ {A = Seen} (record { told = some (0, c .ended, c .taken, length (c .hits), c .attempts); after = hitWords (c .hits) ++ drop (length (hitWords (c .hits))) (k .hits) })
+          (record { told = some (0, r .ended, r .taken, length (r .hits), r .attempts); after = hitWords (r .hits) ++ drop (length (hitWords (r .hits))) (k .hits) })
+      same-seen text limit c r k a =
+          λ i. record { told = some (0, a .ended i, a .taken i, length (a .hits i), a .attempts i); after = hitWords (a .hits i) ++ drop (length (hitWords (a .hits i))) (k .hits) }
+
+      fits-limit : (a : Bool) (n : ℕ) (b : Bool) → firstMet ((7, a) ∷ (9, ltb 1048576 n) ∷ (10, b) ∷ []) ≡ 0 → n ≤ 1048576
+      fits-limit a n b e = ltb-false 1048576 n (first-unmet 8 (ltb 1048576 n) ((10, b) ∷ []) (first-unmet 6 a ((9, ltb 1048576 n) ∷ (10, b) ∷ []) e .1) .0)
+
+  one-call : (text : List ℤ) (st : SearchState) (k : Call) → Represents ps text st → length text ≤ 1048576 → RefusedUnless (isLent ps k) (refusalOf st k) → OneCall ps text st k
+  one-call text st k r l a = go (isLent ps k) refl a (runRefusal ps text k) refl
+    where
+      other : (m : ℕ) → refusalOf st k ≡ m → 0 < m → isLent ps k ≡ false → OneCall ps text st k
+      other zero q p e = absurd (let w : ⊥ = omega arith in w)
+      other (suc m) q p e = one-other text st k m r l e q
+
+      go : (b : Bool) → isLent ps k ≡ b → RefusedUnless b (refusalOf st k) → (n : ℕ) → runRefusal ps text k ≡ n → OneCall ps text st k
+      go true e p zero f = one-accepted text st k r l e f
+      go true e p (suc n) f = one-refused text st k n r l e f
+      go false e p n f = other (refusalOf st k) refl p e
+
+  -- ---- all calls
+
+  record Calls (text : List ℤ) (st : SearchState) (cs : List Call) : Type 0 where
+    same : observe ps st cs ≡ reference ps text cs
+    state : Represents ps (taken ps text cs) (lastState st cs)
+    limit : length (taken ps text cs) ≤ 1048576
+    longer : length text ≤ length (taken ps text cs)
+    never : NeverRefused 8 (observe ps st cs)
+    bound : attemptsOf (observe ps st cs) + longestHead ps (taken ps text cs) + 2 * length text ≤ longestHead ps text + 2 * length (taken ps text cs)
+    list : hitWords (hits ps (taken ps text cs)) ≡ hitWords (hits ps text) ++ written (observe ps st cs)
+
+  all-calls : (cs : List Call) (text : List ℤ) (st : SearchState) → Represents ps text st → length text ≤ 1048576 → Admitted ps st cs → Calls text st cs
+  unfolding observe reference taken lastState Admitted NeverRefused attemptsOf written
+  all-calls [] text st r l a =
+      record { same = refl; state = r; limit = l; longer = omega arith; never = tt; bound = omega arith; list = sym (append-nil (hitWords (hits ps text))) }
+  all-calls (k ∷ cs) text st r l a =
+      let o = one-call text st k r l (a .0) in
+      let i = all-calls cs (referenceCall ps text k .1) (nextState st k) (o .state) (o .limit) (a .1) in
+      record {
+        same = ap₂ (λ (s : Seen) (ss : List Seen). s ∷ ss) (o .same) (i .same);
+        state = i .state;
+        limit = i .limit;
+        longer = omega (arith, o .longer, i .longer);
+        never = (o .never, i .never);
+        bound = omega (arith, o .bound, i .bound);
+        list =
+            i .list
+            ∙ ap (λ (v : List ℕ). v ++ written (observe ps (nextState st k) cs)) (o .list)
+            ∙ append-assoc (hitWords (hits ps text)) (take (2 * toldOr0 (λ t. t .3) (observeCall ps st k .told)) (observeCall ps st k .after)) (written (observe ps (nextState st k) cs));
+      }
+
+  -- the list of a filter search over the same values
+  filter-list : (text : List ℤ) → length text ≤ 1048576 → (ws out : List ℕ) → length (hitWords (hits ps text)) ≤ length out
+      → (filterTold (setWords ps ++ ws) text out ≡ (0, length (hits ps text), candidates ps text)) × (filterAfter (setWords ps ++ ws) text out ≡ hitWords (hits ps text) ++ drop (length (hitWords (hits ps text))) out)
+  filter-list text l ws out f =
+      rw (readSet-words ps ws g, ne-eqb (length ps) 0 (λ q. let w : ⊥ = omega arith in w), le-ltb 1048576 (length text) l, le-ltb (length out) (2 * length (hits ps text)) (let w : 2 * length (hits ps text) ≤ length out = omega (arith, length-hitWords (hits ps text)) in w))
+      (refl, refl)
+
+  run-of : (cs : List Call) → Admitted ps newSearch cs → Run ps cs
+  run-of cs a =
+      let c = all-calls cs [] newSearch (new-represents ps g z) (omega arith) a in
+      let R = taken ps [] cs in
+      let none-before : hitWords (hits ps []) ≡ [] = no-hits ps in
+      let w : written (observe ps newSearch cs) ≡ hitWords (hits ps R) = sym (c .list ∙ ap (λ (v : List ℕ). v ++ written (observe ps newSearch cs)) none-before) in
+      record {
+        same = c .same;
+        never = c .never;
+        bound = omega (arith, c .bound, longestHead-le ps []);
+        count = c .state .minima .count;
+        node = node-reached ps g z R (lastState newSearch cs) (c .state);
+        places = c .state .minima .places;
+        values = c .state .minima .values;
+        list = w;
+        filtered = λ ws out f. rw w (filter-list R (c .limit) ws out f);
+      }
+
+pub run-theorem : RunTheorem
+run-theorem ps g z cs a = run-of ps g z cs a

@@ -1,0 +1,155 @@
+-- One step of the stream search is one step of the reference: what a state that represents a text does with one more value.
+use mathlib.Core.Path.{_≡_, refl, sym, _∙_, ap, ap₂, subst}
+use mathlib.Core.Bool.{Bool, true, false, cond, _&&_}
+use mathlib.Core.List.{List, [], _∷_, _++_, map}
+use Prim.Native.Nat.{ℕ, zero, suc, _-_, _≤_, _<_}
+use native.Mathlib.Omega.{arith}
+use native.Mathlib.Nat.{le-refl}
+use native.Mathlib.Decide.{decLt}
+use lib.Dec.{T, leb, ltb, lt→ltb, le→leb}
+use lib.IntN.{ℤ}
+use lib.ListN.{length, length-append}
+use lib.Seq.{drop-nil}
+use Rattle.lists.specs.Lists.{lastOf, tabulate}
+use Rattle.lists.proofs.Lists.{and-join, length-lastOf}
+use Rattle.lists.proofs.Order.{true-T, T-true}
+use Rattle.answers.specs.declared.SearchState.{SearchState}
+use Rattle.answers.specs.NewSearch.{newSearch}
+use Rattle.cartesian.specs.Distances.{distanceAt, distances, cut}
+use Rattle.cartesian.proofs.Seek.{length-distances}
+use Rattle.cartesian.specs.TreeOf.{treeOfWithin, treeOf}
+use Rattle.realization.specs.LeastRealization.{leftTurns, leastRealization}
+use Rattle.pattern_set.specs.PatternSet.{PatternSet, goodSet}
+use Rattle.matching.specs.Hits.{lastHits}
+use Rattle.matching.specs.Heads.{isHead, failure, headTree}
+use Rattle.matching.proofs.Heads.{headTree-isHead}
+use Rattle.model.specs.Nodes.{nodes, headOf, nodeOf}
+use Rattle.model.specs.State.{goodMinima, goodState, distanceOf, pushed}
+use Rattle.model.specs.Step.{extended, advanceWithin, advance, listed, Stepped, step}
+use Rattle.model.specs.ReferenceRun.{attempts, longestExtended}
+use Rattle.model.specs.Observed.{longestHead}
+use Rattle.model.proofs.Nodes.{head-node, head-length, node-root, failure-shorter}
+use Rattle.runs.proofs.Suffixes.{good-realizable}
+use Rattle.runs.proofs.LongestHead.{longestHead-le, longestHead-head, longestHead-step}
+use Rattle.runs.proofs.Advance.{advance-is}
+use Rattle.runs.proofs.Listed.{listed-is}
+use Rattle.runs.proofs.Minima.{Minima, minima-new, minima-good}
+use Rattle.runs.proofs.Push.{minima-pushed, distance-cut}
+
+-- the distances of the longest suffix of the text that has the tree of some head
+abbrev pub reached : PatternSet → List ℤ → List ℕ
+reached ps text = distances (lastOf (longestHead ps text) text)
+
+-- the state is that of a search over the text
+pub record Represents (ps : PatternSet) (text : List ℤ) (st : SearchState) : Type 0 where
+  pub minima : Minima text st
+  pub node : st .node ≡ nodeOf ps (reached ps text)
+
+empty-least : (h : List ℕ) → length h ≤ 0 → leastRealization h ≡ []
+unfolding leastRealization leftTurns treeOf treeOfWithin
+empty-least [] l = refl
+empty-least (d ∷ h) l = absurd (let w : ⊥ = omega arith in w)
+
+distances-nil : (n : ℕ) → distances (lastOf n []) ≡ []
+unfolding distances tabulate
+distances-nil n = rw (drop-nil {A = ℤ} (length {A = ℤ} [] - n)) refl
+
+-- the failure link of the empty head leads to itself
+empty-failure : (ps : PatternSet) (h : List ℕ) → length h ≤ 0 → length (failure ps h) ≤ 0
+unfolding failure
+empty-failure ps h l = rw (empty-least h l, distances-nil) (le-refl 0)
+
+module _ (ps : PatternSet) (g : T (goodSet ps)) (z : 0 < length ps) where
+  pub reached-head : (text : List ℤ) → T (isHead ps (reached ps text))
+  reached-head text =
+      subst T (headTree-isHead ps (lastOf (longestHead ps text) text) (good-realizable ps g)) (longestHead-head ps text z)
+
+  pub length-reached : (text : List ℤ) → length (reached ps text) ≡ longestHead ps text
+  length-reached text = length-distances (lastOf (longestHead ps text) text) ∙ length-lastOf (longestHead ps text) text (longestHead-le ps text)
+
+  pub node-reached : (text : List ℤ) (st : SearchState) → Represents ps text st → headOf ps (st .node) ≡ reached ps text
+  node-reached text st r = ap (headOf ps) (r .node) ∙ head-node ps g (reached ps text) (reached-head text) .1
+
+  -- a head of 256 distances has no continuation, so what is not the same there is not seen
+  same-branch : (h : List ℕ) (d e : ℕ) → ((m : ℕ) → m ≤ 255 → cut m d ≡ cut m e) → isHead ps (extended h d) ≡ isHead ps (extended h e)
+  same-branch h d e c = go (decLt (length h) 256)
+    where
+      long : (d : ℕ) → (length h < 256 → ⊥) → isHead ps (extended h d) ≡ false
+      long d f = no-head (isHead ps (extended h d)) refl
+        where
+          no-head : (b : Bool) → isHead ps (extended h d) ≡ b → b ≡ false
+          no-head true q = absurd (let l = head-length ps g (extended h d) (T-true (isHead ps (extended h d)) q) in let w : ⊥ = omega (arith, length-append h (cut (length h) d ∷ []), l, f) in w)
+          no-head false q = refl
+
+      go : Dec (length h < 256) → isHead ps (extended h d) ≡ isHead ps (extended h e)
+      go (yes l) = ap (λ (v : ℕ). isHead ps (h ++ (v ∷ []))) (c (length h) (omega arith))
+      go (no f) = long d f ∙ sym (long e f)
+
+  advance-same : (k : ℕ) (h : List ℕ) (d e : ℕ) → length h ≤ k → ((m : ℕ) → m ≤ 255 → cut m d ≡ cut m e) → advanceWithin k ps h d ≡ advanceWithin k ps h e
+  unfolding advanceWithin
+  advance-same zero h d e l c = ap (λ (v : ℕ). (h ++ (v ∷ []), 1)) (c (length h) (omega arith))
+  advance-same (suc k) h d e l c =
+      ap (λ (b : Bool). cond b (extended h d, 1) (advanceWithin k ps (failure ps h) d .0, suc (advanceWithin k ps (failure ps h) d .1))) (same-branch h d e c)
+      ∙ go (isHead ps (extended h e)) refl (advance-same k (failure ps h) d e shorter c)
+    where
+      shorter : length (failure ps h) ≤ k
+      shorter = short (decLt 0 (length h))
+        where
+          short : Dec (0 < length h) → length (failure ps h) ≤ k
+          short (yes p) = omega (arith, failure-shorter ps h p)
+          short (no f) = omega (arith, empty-failure ps h (let w : length h ≤ 0 = omega arith in w))
+
+      go : (b : Bool) → isHead ps (extended h e) ≡ b → advanceWithin k ps (failure ps h) d ≡ advanceWithin k ps (failure ps h) e
+          → _≡_ {A = List ℕ × ℕ} (cond b (extended h d, 1) (advanceWithin k ps (failure ps h) d .0, suc (advanceWithin k ps (failure ps h) d .1))) (cond b (extended h e, 1) (advanceWithin k ps (failure ps h) e .0, suc (advanceWithin k ps (failure ps h) e .1)))
+      go true q ih =
+          let l = head-length ps g (extended h e) (T-true (isHead ps (extended h e)) q) in
+          ap (λ (v : ℕ). (h ++ (v ∷ []), 1)) (c (length h) (omega (arith, l, length-append h (cut (length h) e ∷ []))))
+      go false q ih = ap (λ (r : List ℕ × ℕ). (r .0, suc (r .1))) ih
+
+  -- the head reached and the attempts made by one value
+  pub advance-state : (text : List ℤ) (st : SearchState) (x : ℤ) → Represents ps text st
+      → advance ps (headOf ps (st .node)) (distanceOf st x) ≡ (reached ps (text ++ (x ∷ [])), attempts ps text x)
+  advance-state text st x r =
+      let D = distanceAt (text ++ (x ∷ [])) (length text) in
+      ap (λ (h : List ℕ). advance ps h (distanceOf st x)) (node-reached text st r)
+      ∙ advance-same (length (reached ps text)) (reached ps text) (distanceOf st x) D (le-refl (length (reached ps text))) (distance-cut text st x (r .minima))
+      ∙ advance-is ps text x D g z (λ m l. refl)
+      ∙ ap (λ (n : ℕ). (distances (lastOf n (text ++ (x ∷ []))), attempts ps text x)) (sym (longestHead-step ps text x g z))
+
+  -- ONE STEP: hits and attempts are those of the reference, and the state represents the text with the value
+  pub step-hits : (text : List ℤ) (st : SearchState) (x : ℤ) → Represents ps text st
+      → step ps st x .hits ≡ map (λ j. (length text, j)) (lastHits ps (text ++ (x ∷ [])))
+  unfolding step
+  step-hits text st x r =
+      ap₂ (λ (t : ℕ) (h : List ℕ). map (λ j. (t, j)) (listed ps h)) (r .minima .count) (ap (λ (p : List ℕ × ℕ). p .0) (advance-state text st x r))
+      ∙ ap (map (λ j. (length text, j))) (listed-is ps (text ++ (x ∷ [])) g z)
+
+  pub step-attempts : (text : List ℤ) (st : SearchState) (x : ℤ) → Represents ps text st → step ps st x .attempts ≡ attempts ps text x
+  unfolding step
+  step-attempts text st x r = ap (λ (p : List ℕ × ℕ). p .1) (advance-state text st x r)
+
+  pub step-state : (text : List ℤ) (st : SearchState) (x : ℤ) → Represents ps text st → Represents ps (text ++ (x ∷ [])) (step ps st x .state)
+  unfolding step pushed
+  step-state text st x r =
+      record {
+        minima = minima-pushed text st x (nodeOf ps (advance ps (headOf ps (st .node)) (distanceOf st x) .0)) (r .minima);
+        node = ap (λ (p : List ℕ × ℕ). nodeOf ps (p .0)) (advance-state text st x r);
+      }
+
+  -- a new search represents the empty text
+  pub new-represents : Represents ps [] newSearch
+  new-represents = record { minima = minima-new; node = sym (ap (nodeOf ps) (distances-nil (longestHead ps [])) ∙ node-root ps g z .1) }
+
+  -- a state that represents a text passes check 8
+  pub represents-good : (text : List ℤ) (st : SearchState) → Represents ps text st → length text ≤ 1048576 → T (goodState ps st)
+  unfolding goodState
+  represents-good text st r l =
+      let n = head-node ps g (reached ps text) (reached-head text) in
+      let a : T (ltb (st .node) (length (nodes ps))) = lt→ltb (st .node) (length (nodes ps)) (subst (λ (k : ℕ). k < length (nodes ps)) (sym (r .node)) (n .0)) in
+      let b : T (leb (length (headOf ps (st .node))) (st .taken)) =
+      le→leb (length (headOf ps (st .node))) (st .taken) (subst (λ (h : List ℕ). length h ≤ st .taken) (sym (node-reached text st r)) (omega (arith, length-reached text, longestHead-le ps text, r .minima .count))) in
+      let c : T (leb (st .taken) 1048576) = le→leb (st .taken) 1048576 (omega (arith, r .minima .count)) in
+      and-join (ltb (st .node) (length (nodes ps)) && leb (length (headOf ps (st .node))) (st .taken) && leb (st .taken) 1048576) (goodMinima st)
+      (and-join (ltb (st .node) (length (nodes ps)) && leb (length (headOf ps (st .node))) (st .taken)) (leb (st .taken) 1048576)
+      (and-join (ltb (st .node) (length (nodes ps))) (leb (length (headOf ps (st .node))) (st .taken)) a b) c)
+      (minima-good text st (r .minima))

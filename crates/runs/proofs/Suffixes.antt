@@ -1,0 +1,103 @@
+-- The suffixes of a text with one more value: which of them have the tree of some head, and their distances, of which only the last one is new.
+use mathlib.Core.Path.{_≡_, refl, sym, _∙_, ap, ap₂, subst}
+use mathlib.Core.Bool.{_&&_}
+use mathlib.Core.List.{List, [], _∷_, _++_, flatten, List·Memᴰ, List·Memᴰ·head}
+use Prim.Native.Nat.{ℕ, suc, _+_, _-_, _≤_, _<_}
+use native.Mathlib.Omega.{arith}
+use lib.Dec.{T, leb, leb→le}
+use lib.IntN.{ℤ}
+use lib.ListN.{length, take}
+use lib.Seq.{take-suc, take-all, take-append-seam, drop-append-le}
+use Rattle.lists.specs.Lists.{any, all, lastOf}
+use Rattle.lists.proofs.Lists.{and-split, all-mem, mem-all, length-lastOf, lastOf-zero, length-snoc}
+use Rattle.cartesian.specs.Tree.{leftmostFrom, leftmost, treeWithin, tree, sameTree}
+use Rattle.cartesian.specs.Distances.{distanceAt, distances, cut}
+use Rattle.cartesian.specs.TreeOf.{treeOfWithin, treeOf}
+use Rattle.cartesian.proofs.Seek.{length-distances, getD-distances, distanceAt-drop}
+use Rattle.cartesian.proofs.ByList.{distances-take}
+use Rattle.realization.specs.Realizable.{realizable}
+use Rattle.pattern_set.specs.PatternSet.{PatternSet, goodPattern, goodSet}
+use Rattle.matching.specs.Hits.{hasTree}
+use Rattle.matching.specs.Heads.{isHead, headTree}
+use Rattle.matching.proofs.Heads.{headTree-isHead, head-shorter, empty-headTree}
+use Rattle.model.specs.Step.{extended}
+
+-- ---- the patterns of a good set
+
+-- a pattern of a good set has 1 to 256 distances and is realizable
+pub good-pattern : (ps : PatternSet) (p : List ℕ) → T (goodSet ps) → List·Memᴰ p ps → (1 ≤ length p) × (length p ≤ 256) × T (realizable p)
+unfolding goodSet goodPattern
+good-pattern ps p g m =
+    let a = and-split (leb (length ps) 64 && leb (length (flatten ps)) 4096) (all goodPattern ps) g in
+    let b = and-split (leb 1 (length p) && leb (length p) 256) (realizable p) (all-mem goodPattern ps (a .1) p m) in
+    let c = and-split (leb 1 (length p)) (leb (length p) 256) (b .0) in
+    (leb→le 1 (length p) (c .0), leb→le (length p) 256 (c .1), b .1)
+
+pub good-realizable : (ps : PatternSet) → T (goodSet ps) → T (all realizable ps)
+good-realizable ps g = mem-all realizable ps (λ p m. good-pattern ps p g m .2)
+
+-- ---- heads
+
+-- one value has the tree of the head of one value of any pattern
+pub one-headTree : (ps : PatternSet) (x : ℤ) → T (goodSet ps) → 0 < length ps → T (headTree ps (x ∷ []))
+unfolding headTree hasTree any sameTree tree treeWithin leftmost leftmostFrom treeOf treeOfWithin
+one-headTree [] x g z = absurd (let y : ⊥ = omega arith in y)
+one-headTree (p ∷ ps) x g z = go p (good-pattern (p ∷ ps) p g (List·Memᴰ·head refl) .0)
+  where
+    go : (p : List ℕ) → 1 ≤ length p → T (headTree (p ∷ ps) (x ∷ []))
+    go [] h = absurd (let y : ⊥ = omega arith in y)
+    go (d ∷ ds) h = tt
+
+-- what has the tree of a head has it without its last value
+pub headTree-shorter : (ps : PatternSet) (w : List ℤ) (x : ℤ) → T (goodSet ps) → T (headTree ps (w ++ (x ∷ []))) → T (headTree ps w)
+headTree-shorter ps w x g t =
+    let r = good-realizable ps g in
+    let e : take (length w) (distances (w ++ (x ∷ []))) ≡ distances w = sym (distances-take (length w) (w ++ (x ∷ []))) ∙ ap distances (take-append-seam w (x ∷ [])) in
+    let h = head-shorter ps (distances (w ++ (x ∷ []))) (length w) (subst T (headTree-isHead ps (w ++ (x ∷ [])) r) t) in
+    subst T (sym (headTree-isHead ps w r)) (subst (λ (l : List ℕ). T (isHead ps l)) e h)
+
+-- the empty suffix
+pub empty-suffix : (ps : PatternSet) (text : List ℤ) → 0 < length ps → T (headTree ps (lastOf 0 text))
+empty-suffix ps text z = subst (λ (w : List ℤ). T (headTree ps w)) (sym (lastOf-zero text)) (empty-headTree ps z)
+
+-- the empty suffix with a value behind it
+pub one-suffix : (ps : PatternSet) (text : List ℤ) (x : ℤ) → T (goodSet ps) → 0 < length ps → T (headTree ps (lastOf 0 text ++ (x ∷ [])))
+one-suffix ps text x g z =
+    subst (λ (w : List ℤ). T (headTree ps (w ++ (x ∷ [])))) (sym (lastOf-zero text)) (one-headTree ps x g z)
+
+-- ---- distances
+
+pub distances-snoc : (w : List ℤ) (x : ℤ) → distances (w ++ (x ∷ [])) ≡ distances w ++ (distanceAt (w ++ (x ∷ [])) (length w) ∷ [])
+distances-snoc w x =
+    let v : List ℤ = w ++ (x ∷ []) in
+    let l : length (distances v) ≡ suc (length w) = length-distances v ∙ length-snoc w x in
+    let n : length v ≡ suc (length w) = length-snoc w x in
+    sym (take-all (suc (length w)) (distances v) (omega arith))
+    ∙ take-suc (distances v) (length w) 0 (omega arith)
+    ∙ ap₂ (λ (ds : List ℕ) (d : ℕ). ds ++ (d ∷ []))
+    (sym (distances-take (length w) v) ∙ ap distances (take-append-seam w (x ∷ [])))
+    (getD-distances v 0 (length w) (omega arith))
+
+-- the last distance of a suffix with the value behind it is that of the whole text, cut
+pub distance-suffix : (m : ℕ) (text : List ℤ) (x : ℤ) → m ≤ length text → distanceAt (lastOf m text ++ (x ∷ [])) m ≡ cut m (distanceAt (text ++ (x ∷ [])) (length text))
+distance-suffix m text x h =
+    let a = length text - m in
+    let e : a + m ≡ length text = omega arith in
+    ap (λ (w : List ℤ). distanceAt w m) (sym (drop-append-le a text (x ∷ []) (omega arith)))
+    ∙ distanceAt-drop (text ++ (x ∷ [])) a m
+    ∙ ap (λ (k : ℕ). cut m (distanceAt (text ++ (x ∷ [])) k)) e
+
+pub distances-suffix : (m : ℕ) (text : List ℤ) (x : ℤ) → m ≤ length text → distances (lastOf m text ++ (x ∷ [])) ≡ distances (lastOf m text) ++ (cut m (distanceAt (text ++ (x ∷ [])) (length text)) ∷ [])
+distances-suffix m text x h =
+    distances-snoc (lastOf m text) x
+    ∙ ap (λ (d : ℕ). distances (lastOf m text) ++ (d ∷ []))
+    (ap (distanceAt (lastOf m text ++ (x ∷ []))) (length-lastOf m text h) ∙ distance-suffix m text x h)
+
+-- the head of a suffix, with the distance added, has the distances of the suffix with the value behind it
+pub extended-is : (m : ℕ) (text : List ℤ) (x : ℤ) (d : ℕ) → m ≤ length text → cut m d ≡ cut m (distanceAt (text ++ (x ∷ [])) (length text))
+    → extended (distances (lastOf m text)) d ≡ distances (lastOf m text ++ (x ∷ []))
+extended-is m text x d h e =
+    let l : length (distances (lastOf m text)) ≡ m = length-distances (lastOf m text) ∙ length-lastOf m text h in
+    ap (λ (k : ℕ). distances (lastOf m text) ++ (cut k d ∷ [])) l
+    ∙ ap (λ (k : ℕ). distances (lastOf m text) ++ (k ∷ [])) e
+    ∙ sym (distances-suffix m text x h)

@@ -1,0 +1,192 @@
+-- What is known of a set array that is good: it begins with the words of its patterns, so that each pattern lies between two of the offsets, and each pattern is good.
+use mathlib.Core.Path.{_≡_, refl, sym, _∙_, ap, ap₂}
+use mathlib.Core.Bool.{false, _&&_}
+use mathlib.Core.List.{List, [], _++_, flatten, append-assoc}
+use mathlib.Core.Option.{Option, none, some}
+use Prim.Native.Nat.{ℕ, suc, _+_, _-_, _≤_, _<_}
+use native.Mathlib.Omega.{arith}
+use native.Mathlib.Decide.{decLt}
+use native.Mathlib.Numerals.{add-one}
+use lib.Dec.{T, leb, leb→le}
+use lib.ListN.{length, getD, take, drop, length-append, List·getD-eq-default}
+use lib.Seq.{getD-take, getD-drop}
+use Rattle.lists.proofs.Select.{getD-mem}
+use Rattle.lists.proofs.Members.{length-flatten-suc, length-flatten-take}
+use Rattle.lists.specs.Lists.{all, begins}
+use Rattle.lists.proofs.Lists.{and-split, all-mem, begins-iff, getD-tabulate}
+use Rattle.cartesian.specs.Distances.{distances}
+use Rattle.cartesian.proofs.Seek.{getD-distances, distance-le}
+use Rattle.realization.specs.Realizable.{realizable}
+use Rattle.realization.specs.LeastRealization.{leastRealization}
+use Rattle.realization.proofs.LeastRealization.{least-distances, length-least}
+use Rattle.pattern_set.specs.PatternSet.{PatternSet, offsets, setWords, goodPattern, goodSet, patternIn, patternsIn, readSet}
+use Rattle.pattern_set.proofs.Words.{length-setWords, getD-offsets, patternsIn-words}
+use Rattle.pattern_set.proofs.ReadSet.{readSet-iff}
+use Rattle.model.specs.SetEntries.{isBroken, setOf}
+use Rattle.set_access.specs.Patterns.{patternsOf, Good}
+
+-- ---- the first words of a set
+
+words-count : (ps : PatternSet) (rest : List ℕ) → getD (setWords ps ++ rest) 0 0 ≡ length ps
+unfolding setWords
+words-count ps rest = refl
+
+words-offset : (ps : PatternSet) (rest : List ℕ) (j : ℕ) → j ≤ length ps → getD (setWords ps ++ rest) (2 + j) 0 ≡ length (flatten (take j ps))
+unfolding setWords
+words-offset ps rest j h =
+    let two : 2 + j ≡ suc (suc j) = omega arith in
+    rw (two, append-assoc (offsets 0 ps) (flatten ps) rest) (getD-offsets 0 ps (flatten ps ++ rest) j h ∙ (omega arith))
+
+-- ---- what a good set is
+
+goodSet-parts : (ps : PatternSet) → T (goodSet ps) → (length ps ≤ 64) × (length (flatten ps) ≤ 4096) × T (all goodPattern ps)
+unfolding goodSet
+goodSet-parts ps t =
+    let a = and-split (leb (length ps) 64 && leb (length (flatten ps)) 4096) (all goodPattern ps) t in
+    let b = and-split (leb (length ps) 64) (leb (length (flatten ps)) 4096) (a .0) in
+    (leb→le (length ps) 64 (b .0), leb→le (length (flatten ps)) 4096 (b .1), a .1)
+
+goodPattern-parts : (p : List ℕ) → T (goodPattern p) → (1 ≤ length p) × (length p ≤ 256) × T (realizable p)
+unfolding goodPattern
+goodPattern-parts p t =
+    let a = and-split (leb 1 (length p) && leb (length p) 256) (realizable p) t in
+    let b = and-split (leb 1 (length p)) (leb (length p) 256) (a .0) in
+    (leb→le 1 (length p) (b .0), leb→le (length p) 256 (b .1), a .1)
+
+-- a distance of a realizable list is at most its place; behind the list `getD` gives 0
+pub realizable-le-place : (ds : List ℕ) → T (realizable ds) → (i : ℕ) → getD ds i 0 ≤ i
+realizable-le-place ds r i = go (decLt i (length ds))
+  where
+    go : Dec (i < length ds) → getD ds i 0 ≤ i
+    go (yes h) =
+        let xs = leastRealization ds in
+        let e : getD (distances xs) i 0 ≡ getD ds i 0 = ap (λ (v : List ℕ). getD v i 0) (least-distances ds r) in
+        omega (arith, e, getD-distances xs 0 i (rw (length-least ds r) h), distance-le xs i)
+    go (no f) = let e : getD ds i 0 ≡ 0 = List·getD-eq-default ds 0 {n = i} (omega arith) in omega arith
+
+-- ---- of a good array
+
+good-some : (ws : List ℕ) → Good ws → readSet ws ≡ some (patternsOf ws)
+good-some ws g = go (readSet ws) g
+  where
+    go : (o : Option PatternSet) → isBroken o ≡ false → o ≡ some (setOf o)
+    go none e = absurd (let z : _≡_ {A = ℕ} 0 1 = cc in let u : ⊥ = omega arith in u)
+    go (some ps) e = refl
+
+module _ (ws : List ℕ) (good : Good ws) where
+  -- its set is a good one
+  pub good-set : T (goodSet (patternsOf ws))
+  good-set = readSet-iff ws (patternsOf ws) .0 (good-some ws good) .0
+
+  pub begins-words : T (begins ws (setWords (patternsOf ws)))
+  begins-words = readSet-iff ws (patternsOf ws) .0 (good-some ws good) .1
+
+  -- the array is the words of its set, and a rest
+  pub words-and-rest : (rest : List ℕ) × (ws ≡ setWords (patternsOf ws) ++ rest)
+  words-and-rest = begins-iff ws (setWords (patternsOf ws)) .0 begins-words
+
+  -- ---- sizes
+
+  pub count-le : length (patternsOf ws) ≤ 64
+  count-le = goodSet-parts (patternsOf ws) good-set .0
+
+  pub total-le : length (flatten (patternsOf ws)) ≤ 4096
+  total-le = goodSet-parts (patternsOf ws) good-set .1
+
+  -- the words of the set lie in the array
+  pub set-fits : 3 + length (patternsOf ws) + length (flatten (patternsOf ws)) ≤ length ws
+  set-fits =
+      let r = words-and-rest in
+      omega (arith, ap length (r .1), length-append (setWords (patternsOf ws)) (r .0), length-setWords (patternsOf ws))
+
+  -- the patterns before pattern j
+  pub offset-le : (j : ℕ) → length (flatten (take j (patternsOf ws))) ≤ length (flatten (patternsOf ws))
+  offset-le j = length-flatten-take (patternsOf ws) j
+
+  pub offset-small : (j : ℕ) → length (flatten (take j (patternsOf ws))) ≤ 4096
+  offset-small j = omega (arith, offset-le j, total-le)
+
+  -- and with it
+  pub offset-next : (j : ℕ) → j < length (patternsOf ws) → length (flatten (take (suc j) (patternsOf ws))) ≡ length (flatten (take j (patternsOf ws))) + length (getD (patternsOf ws) j [])
+  offset-next j h = length-flatten-suc (patternsOf ws) j h
+
+  -- a pattern's start, and the end of the last one, is in the array or just behind it
+  pub start-fits : (j : ℕ) → 3 + length (patternsOf ws) + length (flatten (take j (patternsOf ws))) ≤ length ws
+  start-fits j = omega (arith, set-fits, offset-le j)
+
+  -- the next pattern starts where pattern j ends
+  pub next-start : (j a e : ℕ) → j < length (patternsOf ws)
+      → a ≡ 3 + length (patternsOf ws) + length (flatten (take j (patternsOf ws)))
+      → e ≡ 3 + length (patternsOf ws) + length (flatten (take (j + 1) (patternsOf ws)))
+      → e ≡ a + length (getD (patternsOf ws) j [])
+  next-start j a e h p q = omega (arith, p, offset-next j h, rw add-one at q)
+
+  -- pattern j lies in the array
+  pub pattern-fits : (j : ℕ) → j < length (patternsOf ws) → 3 + length (patternsOf ws) + length (flatten (take j (patternsOf ws))) + length (getD (patternsOf ws) j []) ≤ length ws
+  pattern-fits j h = omega (arith, set-fits, offset-next j h, offset-le (suc j))
+
+  -- ---- the words
+
+  pub word-count : getD ws 0 0 ≡ length (patternsOf ws)
+  word-count = let r = words-and-rest in ap (λ (l : List ℕ). getD l 0 0) (r .1) ∙ words-count (patternsOf ws) (r .0)
+
+  pub word-offset : (j : ℕ) → j ≤ length (patternsOf ws) → getD ws (2 + j) 0 ≡ length (flatten (take j (patternsOf ws)))
+  word-offset j h = let r = words-and-rest in ap (λ (l : List ℕ). getD l (2 + j) 0) (r .1) ∙ words-offset (patternsOf ws) (r .0) j h
+
+  patternsIn-is : patternsIn ws ≡ patternsOf ws
+  patternsIn-is = let r = words-and-rest in ap patternsIn (r .1) ∙ patternsIn-words (patternsOf ws) (r .0)
+
+  -- pattern j is what lies from its offset up to the next one
+  patternIn-is : (j : ℕ) → j < length (patternsOf ws) → patternIn ws j ≡ getD (patternsOf ws) j []
+  patternIn-is j h =
+      sym (getD-tabulate (getD ws 0 0) (patternIn ws) [] j (rw word-count h)) ∙ ap (λ (l : PatternSet). getD l j []) patternsIn-is
+
+  pub pattern-part : (j : ℕ) → j < length (patternsOf ws) → take (length (getD (patternsOf ws) j [])) (drop (3 + length (patternsOf ws) + length (flatten (take j (patternsOf ws)))) ws) ≡ getD (patternsOf ws) j []
+  unfolding patternIn
+  pattern-part j h =
+      let p = length (getD (patternsOf ws) j []) in
+      let a = length (flatten (take j (patternsOf ws))) in
+      let s : getD ws (2 + j) 0 ≡ a = word-offset j (omega arith) in
+      let three : 2 + suc j ≡ 3 + j = omega arith in
+      let e : getD ws (3 + j) 0 - getD ws (2 + j) 0 ≡ p = omega (arith, s, offset-next j h, rw three at (word-offset (suc j) h)) in
+      sym (ap₂ (λ (n b : ℕ). take n (drop b ws)) e (ap₂ (λ (k o : ℕ). 3 + k + o) word-count s)) ∙ patternIn-is j h
+
+  -- the same of the words from the start of pattern j to the start of the next one
+  pub pattern-between : (j a e : ℕ) → j < length (patternsOf ws)
+      → a ≡ 3 + length (patternsOf ws) + length (flatten (take j (patternsOf ws)))
+      → e ≡ 3 + length (patternsOf ws) + length (flatten (take (j + 1) (patternsOf ws)))
+      → take (e - a) (drop a ws) ≡ getD (patternsOf ws) j []
+  pattern-between j a e h p q =
+      let n : e - a ≡ length (getD (patternsOf ws) j []) = omega (arith, next-start j a e h p q) in
+      rw (n, p) (pattern-part j h)
+
+  -- place i of pattern j
+  pub distance-word : (j i : ℕ) → j < length (patternsOf ws) → i < length (getD (patternsOf ws) j [])
+      → getD ws (3 + length (patternsOf ws) + length (flatten (take j (patternsOf ws))) + i) 0 ≡ getD (getD (patternsOf ws) j []) i 0
+  distance-word j i h l =
+      let a = 3 + length (patternsOf ws) + length (flatten (take j (patternsOf ws))) in
+      sym (getD-take (length (getD (patternsOf ws) j [])) (drop a ws) i 0 l ∙ getD-drop a ws i 0) ∙ ap (λ (l : List ℕ). getD l i 0) (pattern-part j h)
+
+  -- ---- the patterns
+
+  pub good-pattern : (j : ℕ) → j < length (patternsOf ws) → T (goodPattern (getD (patternsOf ws) j []))
+  good-pattern j h = all-mem goodPattern (patternsOf ws) (goodSet-parts (patternsOf ws) good-set .2) (getD (patternsOf ws) j []) (getD-mem (patternsOf ws) j [] h)
+
+  pub pattern-ge : (j : ℕ) → j < length (patternsOf ws) → 1 ≤ length (getD (patternsOf ws) j [])
+  pattern-ge j h = goodPattern-parts (getD (patternsOf ws) j []) (good-pattern j h) .0
+
+  pub pattern-le : (j : ℕ) → j < length (patternsOf ws) → length (getD (patternsOf ws) j []) ≤ 256
+  pattern-le j h = goodPattern-parts (getD (patternsOf ws) j []) (good-pattern j h) .1
+
+  pub pattern-realizable : (j : ℕ) → j < length (patternsOf ws) → T (realizable (getD (patternsOf ws) j []))
+  pattern-realizable j h = goodPattern-parts (getD (patternsOf ws) j []) (good-pattern j h) .2
+
+  pub distance-le-place : (j i : ℕ) → j < length (patternsOf ws) → getD (getD (patternsOf ws) j []) i 0 ≤ i
+  distance-le-place j i h = realizable-le-place (getD (patternsOf ws) j []) (pattern-realizable j h) i
+
+  pub distance-lt : (j i : ℕ) → j < length (patternsOf ws) → getD (getD (patternsOf ws) j []) i 0 < 256
+  distance-lt j i h = go (decLt i (length (getD (patternsOf ws) j [])))
+    where
+      go : Dec (i < length (getD (patternsOf ws) j [])) → getD (getD (patternsOf ws) j []) i 0 < 256
+      go (yes l) = omega (arith, pattern-le j h, distance-le-place j i h)
+      go (no f) = let e : getD (getD (patternsOf ws) j []) i 0 ≡ 0 = List·getD-eq-default (getD (patternsOf ws) j []) 0 {n = i} (omega arith) in omega arith

@@ -1,0 +1,64 @@
+// The entries on sets of patterns that lie in lent arrays: write the empty set, check an array, add a pattern.
+ghost use mathlib.Core.Path.{_≡_};
+ghost use Rattle.answers.specs.Told.{toldWritten, toldSize};
+ghost use Rattle.model.specs.SetEntries.{emptySetTold, emptySetAfter, checkTold, addTold, addAfter};
+use answers::Refusal;
+use answers::SetSize;
+use answers::Written;
+
+mod room;
+pub mod rules;
+
+// Writes the empty set.
+pub fn empty_set(out: &mut [u32]) -> Written
+    ensures { λ r. ⌜ toldWritten r ≡ emptySetTold (now (out .entry)) ⌝ }
+    ensures { λ _. ⌜ now (out .exit) ≡ emptySetAfter (now (out .entry)) ⌝ }
+{
+    if out.len() < 3 {
+        return Written::Refused(Refusal::ArrayTooShort);
+    }
+    out[0] = 0;
+    out[1] = 0;
+    out[2] = 0;
+    Written::Words(3)
+}
+
+// The patterns and the distances of the set with whose words the array begins.
+pub fn check_set(words: &[u32]) -> SetSize
+    ensures { λ r. ⌜ toldSize r ≡ checkTold (now (words .entry)) ⌝ }
+{
+    if !rules::is_set(words) {
+        return SetSize::Refused(Refusal::BrokenSet);
+    }
+    SetSize::Holds(rules::wide(words[0]), rules::wide(words[1]))
+}
+
+// Adds a pattern, given as values, to the set with whose words the array begins: it becomes the last one.
+pub fn add_pattern(words: &mut [u32], values: &[i32]) -> SetSize
+    ensures { λ r. ⌜ toldSize r ≡ addTold (now (words .entry)) (now (values .entry)) ⌝ }
+    ensures { λ _. ⌜ now (words .exit) ≡ addAfter (now (words .entry)) (now (values .entry)) ⌝ }
+{
+    let m = values.len();
+    if m == 0 {
+        return SetSize::Refused(Refusal::Empty);
+    }
+    if m > 256 {
+        return SetSize::Refused(Refusal::TooLong);
+    }
+    if !rules::is_set(words) {
+        return SetSize::Refused(Refusal::BrokenSet);
+    }
+    let k = rules::wide(words[0]);
+    let n = rules::wide(words[1]);
+    if k >= 64 {
+        return SetSize::Refused(Refusal::SetFull);
+    }
+    if n + m > 4096 {
+        return SetSize::Refused(Refusal::SetFull);
+    }
+    if words.len() < 4 + k + n + m {
+        return SetSize::Refused(Refusal::ArrayTooShort);
+    }
+    room::append(words, values, k, n);
+    SetSize::Holds(k + 1, n + m)
+}

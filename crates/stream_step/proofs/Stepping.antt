@@ -1,0 +1,142 @@
+-- THE STEP FROM ANY HEAD, by failure links: if the branch is missing, the step is that from the failure of the head, with one attempt more; the
+-- root's branch is always there, since every pattern begins with distance 0. It leads to a head of at most one distance more, and each failure
+-- link shortens the head, so the attempts are at most one more than the head has distances.
+use mathlib.Core.Path.{_≡_, refl, sym, _∙_, ap, subst}
+use mathlib.Core.Bool.{Bool, true, false, cond}
+use mathlib.Core.List.{List, [], _∷_, List·Memᴰ, List·Memᴰ·head}
+use Prim.Native.Nat.{ℕ, zero, suc, _+_, _≤_, _<_}
+use native.Mathlib.Omega.{arith}
+use native.Mathlib.Nat.{le-refl}
+use lib.Dec.{T, leb}
+use lib.ListN.{length, take}
+use borrow.Author.Tests.{leb-true}
+use Rattle.lists.specs.Lists.{any, begins}
+use Rattle.lists.proofs.Order.{T-true, true-T}
+use Rattle.lists.proofs.Lists.{eq-same, mem-any, all-mem, length-snoc}
+use Rattle.cartesian.specs.Distances.{cut}
+use Rattle.realization.specs.Realizable.{walk, realizable}
+use Rattle.pattern_set.specs.PatternSet.{PatternSet, goodSet}
+use Rattle.matching.specs.Heads.{isHead, failure}
+use Rattle.model.specs.Nodes.{nodes, headOf}
+use Rattle.model.specs.Step.{extended, advanceWithin, advance}
+use Rattle.model.proofs.Nodes.{good-length, good-realizable, head-node, node-head, head-length, failure-shorter}
+use Rattle.stream_step.specs.Reached.{Reached}
+
+-- ---- the root's branch
+
+-- a realizable list begins with distance 0
+first-zero : (p : List ℕ) → T (realizable p) → 0 < length p → take 1 p ≡ 0 ∷ []
+unfolding realizable walk any
+first-zero [] t h = absurd (let z : ⊥ = omega arith in z)
+first-zero (zero ∷ p) t h = refl
+first-zero (suc d ∷ p) t h = absurd t
+
+zero-isHead : (ps : PatternSet) → T (goodSet ps) → 0 < length ps → T (isHead ps (0 ∷ []))
+unfolding isHead
+zero-isHead [] g h = absurd (let z : ⊥ = omega arith in z)
+zero-isHead (p ∷ ps) g h =
+    let m : List·Memᴰ p (p ∷ ps) = List·Memᴰ·head refl in
+    mem-any (λ p. begins p (0 ∷ [])) (p ∷ ps) p m
+    (eq-same (take 1 p) (0 ∷ []) (first-zero p (all-mem realizable (p ∷ ps) (good-realizable (p ∷ ps) g) p m) (good-length (p ∷ ps) g p m .0)))
+
+cut-zero : (d : ℕ) → cut 0 d ≡ 0
+cut-zero d = go (leb d 0) refl
+  where
+    go : (b : Bool) → leb d 0 ≡ b → cond b d 0 ≡ 0
+    go true e = let l = leb-true d 0 e in omega arith
+    go false e = refl
+
+-- r is a head of some distances, at most one more than n, and of the fewer the more attempts there were
+pub record Bounded (ps : PatternSet) (n : ℕ) (r : List ℕ × ℕ) : Type 0 where
+  pub head : T (isHead ps (r .0))
+  pub longer : 0 < length (r .0)
+  pub within : length (r .0) ≤ suc n
+  pub positive : 0 < r .1
+  pub attempts : r .1 + length (r .0) ≤ n + 2
+
+-- ---- one turn
+
+module _ (ps : PatternSet) (g : T (goodSet ps)) (z : 0 < length ps) (d : ℕ) where
+  pub root-branch : (h : List ℕ) → length h ≤ 0 → isHead ps (extended h d) ≡ true
+  root-branch [] l = ap (λ (v : ℕ). isHead ps (v ∷ [])) (cut-zero d) ∙ true-T (isHead ps (0 ∷ [])) (zero-isHead ps g z)
+  root-branch (x ∷ h) l = absurd (let y : ⊥ = omega arith in y)
+
+  -- a head without the branch is not the root's
+  pub missing-longer : (h : List ℕ) → isHead ps (extended h d) ≡ false → 0 < length h
+  missing-longer [] e = absurd (subst T e (T-true (isHead ps (extended [] d)) (root-branch [] (le-refl 0))))
+  missing-longer (x ∷ h) e = omega arith
+
+  stops : (n : ℕ) (h : List ℕ) → isHead ps (extended h d) ≡ true → advanceWithin n ps h d ≡ (extended h d, 1)
+  unfolding advanceWithin
+  stops zero h e = refl
+  stops (suc n) h e = rw e refl
+
+  falls : (n : ℕ) (h : List ℕ) → isHead ps (extended h d) ≡ false
+      → advanceWithin (suc n) ps h d ≡ (advanceWithin n ps (failure ps h) d .0, suc (advanceWithin n ps (failure ps h) d .1))
+  unfolding advanceWithin
+  falls n h e = rw e refl
+
+  -- as many failure links as the head has distances are enough
+  enough : (n m : ℕ) (h : List ℕ) → length h ≤ n → length h ≤ m → advanceWithin n ps h d ≡ advanceWithin m ps h d
+  enough zero zero h l k = refl
+  enough zero (suc m) h l k = let e = root-branch h l in stops 0 h e ∙ sym (stops (suc m) h e)
+  enough (suc n) zero h l k = let e = root-branch h k in stops (suc n) h e ∙ sym (stops 0 h e)
+  enough (suc n) (suc m) h l k = go (isHead ps (extended h d)) refl (enough n m (failure ps h))
+    where
+      go : (b : Bool) → isHead ps (extended h d) ≡ b
+          → (length (failure ps h) ≤ n → length (failure ps h) ≤ m → advanceWithin n ps (failure ps h) d ≡ advanceWithin m ps (failure ps h) d)
+          → advanceWithin (suc n) ps h d ≡ advanceWithin (suc m) ps h d
+      go true e ih = stops (suc n) h e ∙ sym (stops (suc m) h e)
+      go false e ih =
+          let s = failure-shorter ps h (missing-longer h e) in
+          falls n h e ∙ ap (λ (r : List ℕ × ℕ). (r .0, suc (r .1))) (ih (omega arith) (omega arith)) ∙ sym (falls m h e)
+
+  -- THE BRANCH IS THERE
+  pub advance-there : (h : List ℕ) → isHead ps (extended h d) ≡ true → advance ps h d ≡ (extended h d, 1)
+  advance-there h e = stops (length h) h e
+
+  -- THE BRANCH IS MISSING
+  pub advance-missing : (h : List ℕ) → isHead ps (extended h d) ≡ false → advance ps h d ≡ (advance ps (failure ps h) d .0, suc (advance ps (failure ps h) d .1))
+  advance-missing [] e = let l = missing-longer [] e in absurd (let y : ⊥ = omega arith in y)
+  advance-missing (x ∷ h) e =
+      let s = failure-shorter ps (x ∷ h) (omega arith) in
+      falls (length h) (x ∷ h) e
+      ∙ ap (λ (r : List ℕ × ℕ). (r .0, suc (r .1))) (enough (length h) (length (failure ps (x ∷ h))) (failure ps (x ∷ h)) (omega arith) (le-refl (length (failure ps (x ∷ h)))))
+
+  -- ---- how far a step leads
+
+  bounded-there : (n : ℕ) (h : List ℕ) → isHead ps (extended h d) ≡ true → Bounded ps (length h) (advanceWithin n ps h d)
+  bounded-there n h e =
+      let s = length-snoc h (cut (length h) d) in
+      subst (λ (r : List ℕ × ℕ). Bounded ps (length h) r) (sym (stops n h e))
+      (record { head = T-true (isHead ps (extended h d)) e; longer = omega arith; within = omega arith; positive = omega arith; attempts = omega arith })
+
+  bounded : (n : ℕ) (h : List ℕ) → length h ≤ n → Bounded ps (length h) (advanceWithin n ps h d)
+  bounded zero h l = bounded-there 0 h (root-branch h l)
+  bounded (suc n) h l = go (isHead ps (extended h d)) refl (bounded n (failure ps h))
+    where
+      go : (b : Bool) → isHead ps (extended h d) ≡ b → (length (failure ps h) ≤ n → Bounded ps (length (failure ps h)) (advanceWithin n ps (failure ps h) d))
+          → Bounded ps (length h) (advanceWithin (suc n) ps h d)
+      go true e ih = bounded-there (suc n) h e
+      go false e ih =
+          let s = failure-shorter ps h (missing-longer h e) in
+          let r = ih (omega arith) in
+          subst (λ (r : List ℕ × ℕ). Bounded ps (length h) r) (sym (falls n h e))
+          (record { head = r .head; longer = r .longer; within = omega (arith, r .within); positive = omega arith; attempts = omega (arith, r .attempts) })
+
+  pub advance-bounded : (h : List ℕ) → Bounded ps (length h) (advance ps h d)
+  advance-bounded h = bounded (length h) h (le-refl (length h))
+
+  -- THE NODE REACHED is one of the automaton, and its head is at most one distance longer; the attempts are at most one more than the head had distances
+  pub reached-within : (n m a : ℕ) → Reached ps n d m a
+      → (m < length (nodes ps)) × (headOf ps m ≡ advance ps (headOf ps n) d .0) × (length (headOf ps m) ≤ length (headOf ps n) + 1) × (0 < a) × (a + length (headOf ps m) ≤ length (headOf ps n) + 2) × (a ≤ length (headOf ps n) + 1)
+  reached-within n m a r =
+      let b = advance-bounded (headOf ps n) in
+      let p = head-node ps g (advance ps (headOf ps n) d .0) (b .head) in
+      let e : headOf ps m ≡ advance ps (headOf ps n) d .0 = ap (headOf ps) (r .node) ∙ p .1 in
+      let l = ap length e in
+      (omega (arith, r .node, p .0), e, omega (arith, b .within), omega (arith, r .attempts, b .positive), omega (arith, r .attempts, b .attempts), omega (arith, r .attempts, b .attempts, b .longer))
+
+  -- so they are at most 257
+  pub attempts-few : (n m a : ℕ) → n < length (nodes ps) → Reached ps n d m a → a ≤ 257
+  attempts-few n m a h r = omega (arith, reached-within n m a r .5, head-length ps g (headOf ps n) (node-head ps n h .0))

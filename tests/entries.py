@@ -1,0 +1,257 @@
+#!/usr/bin/env python3
+"""Makes the input of the test program cases_entries: cases for the entries on patterns and sets, with what each must give.
+
+usage: entries.py > crates/cases_entries/stdin
+
+What is expected is computed here in another way than in the finder: distances by their definition place by place,
+possible lists by building values for them, least values by raising values until they have the list, global parents from
+the tree of the least values, failure lengths by comparing distances of tails, codes by the sum. The seed is fixed.
+"""
+import random
+from math import factorial
+
+random.seed(20261115)
+cases = []
+
+
+def distances(xs):
+    out = []
+    for i, x in enumerate(xs):
+        d = 0
+        for j in range(i - 1, -1, -1):
+            if xs[j] <= x:
+                d = i - j
+                break
+        out.append(d)
+    return out
+
+
+def least(ds):
+    """The least values with these distances, or None: raise a value as long as a rule of the list is broken."""
+    n = len(ds)
+    if any(d > i for i, d in enumerate(ds)):
+        return None
+    xs = [0] * n
+    # place j = i - d is not above i, every place between is above i; with d = 0 every place before is above i
+    for _ in range(n + 1):
+        changed = False
+        for i, d in enumerate(ds):
+            j = i - d if d else -1
+            if d and xs[i] < xs[j]:
+                xs[i] = xs[j]
+                changed = True
+            for m in range(j + 1, i):
+                if xs[m] <= xs[i]:
+                    xs[m] = xs[i] + 1
+                    changed = True
+        if not changed:
+            return xs if distances(xs) == ds else None
+        if max(xs) > n:
+            return None
+    return None
+
+
+def parents(ds):
+    xs = least(ds)
+    out = [0] * len(xs)
+
+    def walk(a, e, up):
+        if a == e:
+            return
+        m = min(range(a, e), key=lambda i: (xs[i], i))
+        out[m] = m if up is None else up
+        walk(a, m, m)
+        walk(m + 1, e, m)
+
+    walk(0, len(xs), None)
+    return out
+
+
+def failures(ds):
+    xs = least(ds)
+    out = []
+    for n in range(1, len(ds) + 1):
+        m = n - 1
+        while distances(xs[n - m:n]) != ds[:m]:
+            m -= 1
+        out.append(m)
+    return out
+
+
+def code(ds):
+    return sum(d * factorial(i) for i, d in enumerate(ds) if i)
+
+
+def first(conditions):
+    return next((number for number, met in conditions if met), 0)
+
+
+def after(refusal, result, room):
+    return (list(result) if refusal == 0 else []) + [7] * (room - (len(result) if refusal == 0 else 0))
+
+
+def case_list(entry, given, room):
+    n = len(given)
+    if entry == 1:
+        r = first([(1, n == 0), (2, n > 256), (10, room < n)])
+        result = distances(given) if r == 0 else []
+    else:
+        r = first([(1, n == 0), (2, n > 256)]) or first([(4, least(given) is None), (10, room < n)])
+        result = {2: least, 3: parents, 4: failures}[entry](given) if r == 0 else []
+    cases.append([entry, n, room, *given, r, 0 if r else n, *after(r, result, room)])
+
+
+def case_encode(ds):
+    n = len(ds)
+    r = first([(1, n == 0), (2, n > 256), (3, n > 20)]) or first([(4, least(ds) is None)])
+    cases.append([5, n, *ds, r, 0 if r else code(ds)])
+
+
+def unrank(n, c):
+    return [c // factorial(i) % (i + 1) for i in range(n)]
+
+
+def case_decode(n, c, room):
+    r = first([(1, n == 0), (3, n > 20)]) or first([(4, c >= factorial(n) or least(unrank(n, c)) is None), (10, room < n)])
+    cases.append([6, n, c, room, r, 0 if r else n, *after(r, unrank(n, c) if r == 0 else [], room)])
+
+
+def set_words(patterns):
+    offsets = [0]
+    for p in patterns:
+        offsets.append(offsets[-1] + len(p))
+    return [len(patterns), offsets[-1], *offsets, *[d for p in patterns for d in p]]
+
+
+def read_set(ws):
+    """The patterns of a set array, or None where it breaks the rules."""
+    if len(ws) < 3 or ws[0] > 64 or ws[1] > 4096 or len(ws) < 3 + ws[0] + ws[1]:
+        return None
+    k, n = ws[0], ws[1]
+    offsets = ws[2:3 + k]
+    if offsets[0] != 0 or offsets[-1] != n:
+        return None
+    patterns = []
+    for a, e in zip(offsets, offsets[1:]):
+        if not 1 <= e - a <= 256:
+            return None
+        p = ws[3 + k + a:3 + k + e]
+        if least(p) is None:
+            return None
+        patterns.append(p)
+    return patterns
+
+
+def case_check(ws):
+    ps = read_set(ws)
+    cases.append([8, len(ws), *ws, 5 if ps is None else 0, len(ps or []), sum(map(len, ps or []))])
+
+
+def case_add(ws, xs):
+    ps = read_set(ws)
+    total = sum(map(len, ps or [])) + len(xs)
+    r = first([(1, not xs), (2, len(xs) > 256), (5, ps is None)])
+    r = r or first([(6, len(ps) >= 64 or total > 4096), (10, len(ws) < 4 + len(ps) + total)])
+    if r:
+        cases.append([9, len(ws), *ws, len(xs), *xs, r, 0, 0, *ws])
+        return ws
+    bigger = set_words(ps + [distances(xs)])
+    left = bigger + ws[len(bigger):]
+    cases.append([9, len(ws), *ws, len(xs), *xs, 0, len(ps) + 1, total, *left])
+    return left
+
+
+LOW, HIGH, WORD = -2 ** 31, 2 ** 31 - 1, 2 ** 32 - 1
+
+
+def values(n, spread):
+    """Values with ties; the lowest value of all is the only one below 0 that the program reads."""
+    return [random.choice((LOW, HIGH)) if random.random() < 0.02 else random.randint(0, 2 * spread) for _ in range(n)]
+
+
+# ---- patterns
+worked = [(2, 7, 5, 6, 4, 3, 1), (11, 14, 13, 15, 12), (4, 22, 3, 5, 2, 23, 15, 1), (3, 1, 6, 4, 8, 6, 7, 5, 9), (5, 5),
+          (5, 4), (5, 7, 4, 6, 1, 3, 2), (1, 4, 3, 4, 1), (6, 2, 5, 1, 4, 3, 7), (LOW, HIGH, LOW, 0, HIGH), (0,)]
+for xs in map(list, worked):
+    case_list(1, xs, len(xs))
+    case_list(1, xs, len(xs) + 3)
+    case_list(1, xs, len(xs) - 1)
+    for entry in (2, 3, 4):
+        case_list(entry, distances(xs), len(xs) + 1)
+        case_list(entry, distances(xs), len(xs) - 1)
+    case_encode(distances(xs))
+for n in (0, 1, 20, 21, 255, 256, 257):
+    xs = values(n, 3)
+    case_list(1, xs, 300)
+    case_list(1, xs, max(n - 1, 0))
+    for entry in (2, 3, 4):
+        case_list(entry, distances(xs), n + 1)
+        case_list(entry, distances(xs), max(n - 1, 0))
+    case_encode(distances(xs))
+rising, falling = list(range(256)), list(range(256, 0, -1))
+for xs in (rising, falling, [5] * 256, [i % 2 for i in range(256)]):
+    for entry in (2, 3, 4):
+        case_list(entry, distances(xs), 256)
+for ds in ([0, 1, 2, 2], [0, 1, 2, 3], [1], [0, 2], [0, WORD], [WORD], [0, 0, 0, 4], [0, 1, WORD - 1], [0, 1, 1, 3, 2]):
+    for entry in (2, 3, 4):
+        case_list(entry, ds, len(ds))
+    case_encode(ds)
+case_encode([0] * 21 + [50])
+case_encode([0] * 257)
+for _ in range(250):
+    xs = values(random.randint(1, 12), random.choice((1, 2, 5, 1000)))
+    ds = distances(xs)
+    case_list(1, xs, len(xs) + random.randint(-1, 2))
+    case_list(random.choice((2, 3, 4)), ds, len(ds) + random.randint(-1, 1))
+    case_encode(ds)
+    if random.random() < 0.7:
+        ds[random.randrange(len(ds))] = random.choice((0, 1, 2, 3, len(ds), WORD))
+        case_list(random.choice((2, 3, 4)), ds, len(ds))
+        case_encode(ds)
+for n, c, room in ((4, 23, 4), (4, 17, 4), (4, 24, 4), (4, 23, 3), (0, 0, 4), (21, 0, 30), (20, 0, 20), (20, 0, 19), (1, 0, 1),
+                   (1, 1, 1), (20, factorial(20) - 1, 25), (20, 999999999999999999, 20), (5, 107, 9), (2, 2, 2)):
+    if c < 10 ** 18:
+        case_decode(n, c, room)
+for c in range(121):
+    case_decode(5, c, random.randint(4, 6))
+
+# ---- sets
+for room in (0, 2, 3, 5):
+    r = first([(10, room < 3)])
+    cases.append([7, room, r, 0 if r else 3, *after(r, [0, 0, 0], room)])
+three = [distances(x) for x in ((4, 2, 3, 1, 5), (3, 1, 4, 2), (1, 2, 3, 5, 4))]
+good = set_words(three)
+assert len(good) == 20
+for ws in (good, good + [9, 9], good[:-1], [], [0], [0, 0], [0, 0, 0], [0, 0, 0, 5], [0, 1, 0], [0, 0, 7], [1, 1, 0, 1, 0],
+           [1, 1, 0, 1, 1], [1, 1, 0, 0, 0], [2, 2, 0, 2, 2, 0, 0], [2, 2, 0, 2, 1, 0, 0], [WORD, WORD, 0], [1, WORD, 0, WORD, 0],
+           [1, 1, WORD, 1, 0], [2, 1, 0, WORD, 1, 0], [64, 0, 0], [65, 65] + list(range(66)) + [0] * 65,
+           [64, 64] + list(range(65)) + [0] * 64, [1, 256, 0, 256] + [0] * 256, [1, 257, 0, 257] + [0] * 257,
+           [1, 4, 0, 4, 0, 1, 2, 2], [1, 3, 0, 4, 0, 1, 2], [1, 4, 0, 3, 0, 1, 2, 1]):
+    case_check(ws)
+for i in range(len(good)):
+    for w in (0, 1, WORD, good[i] + 1):
+        case_check(good[:i] + [w] + good[i + 1:])
+full = set_words([[0] * 256] * 16)
+case_check(full)
+case_check(set_words([[0] * 256] * 16 + [[0]]))
+case_add(full + [7, 7], [3])
+case_add(set_words([[0] * 256] * 15 + [[0] * 255]) + [7] * 5, [3])
+case_add(set_words([[0] * 256] * 15 + [[0] * 255]) + [7] * 5, [3, 4])
+many = set_words([[0]] * 63) + [7] * 6
+many = case_add(many, [5])
+case_add(many, [5])
+for n in (0, 1, 256, 257):
+    case_add([0, 0, 0] + [7] * 300, values(n, 4))
+case_add([0, 0, 0, 7], [1])
+case_add([0, 0, 0, 7, 7], [1])
+case_add([0, 0, 7, 7, 7], [1])
+case_add([0, 0, 7, 7, 7], [])
+case_add([0, 0, 7, 7, 7], values(257, 4))
+for _ in range(12):
+    ws = [0, 0, 0] + [random.randint(0, 9) for _ in range(60)]
+    for _ in range(8):
+        ws = case_add(ws, values(random.randint(0, 12), random.choice((1, 3, 1000))))
+    case_check(ws)
+
+for c in cases:
+    print(*c)
