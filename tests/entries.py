@@ -1,14 +1,22 @@
 #!/usr/bin/env python3
-"""Makes the input of the test program cases_entries: cases for the entries on patterns and sets, with what each must give.
+"""Makes the input of the test programs cases_patterns and cases_sets: cases for the entries on patterns (1 to 6) or on sets
+(7 to 9), with what each must give.
 
-usage: entries.py > crates/cases_entries/stdin
+usage: entries.py patterns > crates/cases_patterns/stdin
+       entries.py sets > crates/cases_sets/stdin
 
 What is expected is computed here in another way than in the finder: distances by their definition place by place,
 possible lists by building values for them, least values by raising values until they have the list, global parents from
-the tree of the least values, failure lengths by comparing distances of tails, codes by the sum. The seed is fixed.
+the tree of the least values, failure lengths by comparing distances of tails, codes by the sum. The seed is fixed, and all
+cases are made whichever are asked for.
 """
 import random
+import sys
 from math import factorial
+
+ENTRIES = {"patterns": range(1, 7), "sets": range(7, 10)}
+if len(sys.argv) != 2 or sys.argv[1] not in ENTRIES:
+    sys.exit("usage: entries.py patterns|sets")
 
 random.seed(20261115)
 cases = []
@@ -254,4 +262,5 @@ for _ in range(12):
     case_check(ws)
 
 for c in cases:
-    print(*c)
+    if c[0] in ENTRIES[sys.argv[1]]:
+        print(*c)

@@ -70,23 +70,23 @@ toldEncoded-injective = undo toldEncoded (λ (w : ℕ × ℕ). choose (w .0) (En
     back (Encoded.Refused r) = choose-refused r (Encoded.Code 0) Encoded.Refused
 
 pub toldSize-injective : (a b : SetSize) → toldSize a ≡ toldSize b → a ≡ b
-toldSize-injective = undo toldSize (λ (w : ℕ × ℕ × ℕ). choose (w .0) (SetSize.Holds (w .1) (w .2)) SetSize.Refused) back
+toldSize-injective = undo toldSize (λ (w : ℕ × (ℕ × ℕ)). choose (w .0) (SetSize.Holds (w .1 .0) (w .1 .1)) SetSize.Refused) back
   where
-    back : (a : SetSize) → choose (toldSize a .0) (SetSize.Holds (toldSize a .1) (toldSize a .2)) SetSize.Refused ≡ a
+    back : (a : SetSize) → choose (toldSize a .0) (SetSize.Holds (toldSize a .1 .0) (toldSize a .1 .1)) SetSize.Refused ≡ a
     back (SetSize.Holds m n) = refl
     back (SetSize.Refused r) = choose-refused r (SetSize.Holds 0 0) SetSize.Refused
 
 pub toldBuilt-injective : (a b : Built) → toldBuilt a ≡ toldBuilt b → a ≡ b
-toldBuilt-injective = undo toldBuilt (λ (w : ℕ × ℕ × ℕ). choose (w .0) (Built.Nodes (w .1) (w .2)) Built.Refused) back
+toldBuilt-injective = undo toldBuilt (λ (w : ℕ × (ℕ × ℕ)). choose (w .0) (Built.Nodes (w .1 .0) (w .1 .1)) Built.Refused) back
   where
-    back : (a : Built) → choose (toldBuilt a .0) (Built.Nodes (toldBuilt a .1) (toldBuilt a .2)) Built.Refused ≡ a
+    back : (a : Built) → choose (toldBuilt a .0) (Built.Nodes (toldBuilt a .1 .0) (toldBuilt a .1 .1)) Built.Refused ≡ a
     back (Built.Nodes m n) = refl
     back (Built.Refused r) = choose-refused r (Built.Nodes 0 0) Built.Refused
 
 pub toldFiltered-injective : (a b : Filtered) → toldFiltered a ≡ toldFiltered b → a ≡ b
-toldFiltered-injective = undo toldFiltered (λ (w : ℕ × ℕ × ℕ). choose (w .0) (Filtered.Found (w .1) (w .2)) Filtered.Refused) back
+toldFiltered-injective = undo toldFiltered (λ (w : ℕ × (ℕ × ℕ)). choose (w .0) (Filtered.Found (w .1 .0) (w .1 .1)) Filtered.Refused) back
   where
-    back : (a : Filtered) → choose (toldFiltered a .0) (Filtered.Found (toldFiltered a .1) (toldFiltered a .2)) Filtered.Refused ≡ a
+    back : (a : Filtered) → choose (toldFiltered a .0) (Filtered.Found (toldFiltered a .1 .0) (toldFiltered a .1 .1)) Filtered.Refused ≡ a
     back (Filtered.Found m n) = refl
     back (Filtered.Refused r) = choose-refused r (Filtered.Found 0 0) Filtered.Refused
 
@@ -95,13 +95,13 @@ abbrev chooseEnd : ℕ → Counts → StreamAnswer
 chooseEnd zero c = StreamAnswer.Full c
 chooseEnd (suc n) c = StreamAnswer.Ended c
 
-abbrev countsOf : ℕ × ℕ × ℕ × ℕ × ℕ → Counts
-countsOf w = record { taken = w .2; hits = w .3; attempts = w .4 }
+abbrev countsOf : ℕ × (ℕ × ℕ × ℕ × ℕ) → Counts
+countsOf w = record { taken = w .1 .1; hits = w .1 .2; attempts = w .1 .3 }
 
 pub toldStreamed-injective : (a b : StreamAnswer) → toldStreamed a ≡ toldStreamed b → a ≡ b
-toldStreamed-injective = undo toldStreamed (λ (w : ℕ × ℕ × ℕ × ℕ × ℕ). choose (w .0) (chooseEnd (w .1) (countsOf w)) StreamAnswer.Refused) back
+toldStreamed-injective = undo toldStreamed (λ (w : ℕ × (ℕ × ℕ × ℕ × ℕ)). choose (w .0) (chooseEnd (w .1 .0) (countsOf w)) StreamAnswer.Refused) back
   where
-    back : (a : StreamAnswer) → choose (toldStreamed a .0) (chooseEnd (toldStreamed a .1) (countsOf (toldStreamed a))) StreamAnswer.Refused ≡ a
+    back : (a : StreamAnswer) → choose (toldStreamed a .0) (chooseEnd (toldStreamed a .1 .0) (countsOf (toldStreamed a))) StreamAnswer.Refused ≡ a
     back (StreamAnswer.Ended c) = refl
     back (StreamAnswer.Full c) = refl
-    back (StreamAnswer.Refused r) = choose-refused r (chooseEnd 0 (countsOf (number r, 0, 0, 0, 0))) StreamAnswer.Refused
+    back (StreamAnswer.Refused r) = choose-refused r (chooseEnd 0 (countsOf (number r, (0, 0, 0, 0)))) StreamAnswer.Refused

@@ -35,22 +35,22 @@ toldEncoded (Encoded.Code c) = (0, c)
 toldEncoded (Encoded.Refused r) = (number r, 0)
 
 -- refusal, patterns and distances
-abbrev pub toldSize : SetSize → ℕ × ℕ × ℕ
-toldSize (SetSize.Holds k n) = (0, k, n)
-toldSize (SetSize.Refused r) = (number r, 0, 0)
+abbrev pub toldSize : SetSize → ℕ × (ℕ × ℕ)
+toldSize (SetSize.Holds k n) = (0, (k, n))
+toldSize (SetSize.Refused r) = (number r, (0, 0))
 
 -- refusal, nodes and words
-abbrev pub toldBuilt : Built → ℕ × ℕ × ℕ
-toldBuilt (Built.Nodes n w) = (0, n, w)
-toldBuilt (Built.Refused r) = (number r, 0, 0)
+abbrev pub toldBuilt : Built → ℕ × (ℕ × ℕ)
+toldBuilt (Built.Nodes n w) = (0, (n, w))
+toldBuilt (Built.Refused r) = (number r, (0, 0))
 
 -- refusal, hits and candidates
-abbrev pub toldFiltered : Filtered → ℕ × ℕ × ℕ
-toldFiltered (Filtered.Found h c) = (0, h, c)
-toldFiltered (Filtered.Refused r) = (number r, 0, 0)
+abbrev pub toldFiltered : Filtered → ℕ × (ℕ × ℕ)
+toldFiltered (Filtered.Found h c) = (0, (h, c))
+toldFiltered (Filtered.Refused r) = (number r, (0, 0))
 
 -- refusal; 1 where the values ended and 0 where the call is full; values taken, hits and attempts
-abbrev pub toldStreamed : StreamAnswer → ℕ × ℕ × ℕ × ℕ × ℕ
-toldStreamed (StreamAnswer.Ended c) = (0, 1, c .taken, c .hits, c .attempts)
-toldStreamed (StreamAnswer.Full c) = (0, 0, c .taken, c .hits, c .attempts)
-toldStreamed (StreamAnswer.Refused r) = (number r, 0, 0, 0, 0)
+abbrev pub toldStreamed : StreamAnswer → ℕ × (ℕ × ℕ × ℕ × ℕ)
+toldStreamed (StreamAnswer.Ended c) = (0, (1, c .taken, c .hits, c .attempts))
+toldStreamed (StreamAnswer.Full c) = (0, (0, c .taken, c .hits, c .attempts))
+toldStreamed (StreamAnswer.Refused r) = (number r, (0, 0, 0, 0))

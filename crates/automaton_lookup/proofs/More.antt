@@ -6,7 +6,7 @@ use native.Mathlib.Omega.{arith}
 use native.Mathlib.Decide.{decLt}
 use lib.ListN.{length, getD, take, length-append, List·getD-append}
 use lib.Seq.{getD-take, getD-append-add}
-use Rattle.lists.specs.Lists.{tabulate}
+use Rattle.lists.specs.Prelude.{tabulate}
 use Rattle.lists.proofs.Members.{flatten-tabulate}
 
 -- lists with a common front have the same elements there

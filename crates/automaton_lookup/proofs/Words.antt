@@ -9,7 +9,7 @@ use native.Mathlib.Omega.{arith}
 use lib.Dec.{T}
 use lib.ListN.{length, getD, length-append, List·getD-append}
 use lib.Seq.{getD-append-add, getD-at}
-use Rattle.lists.specs.Lists.{tabulate}
+use Rattle.lists.specs.Prelude.{tabulate}
 use Rattle.lists.proofs.Lists.{length-tabulate, getD-tabulate}
 use Rattle.pattern_set.specs.PatternSet.{PatternSet, goodSet, readSet}
 use Rattle.pattern_set.proofs.ReadSet.{readSet-iff}

@@ -3,7 +3,7 @@
 ghost use mathlib.Core.Path.{_≡_};
 ghost use Prim.Native.Nat.{_+_, _-_, _≤_, _<_};
 ghost use lib.ListN.{length, getD};
-ghost use Rattle.lists.specs.Lists.{select};
+ghost use Rattle.lists.specs.Prelude.{select};
 ghost use Rattle.pattern_set.specs.PatternSet.{readSet};
 ghost use Rattle.matching.specs.Heads.{failure, chain};
 ghost use Rattle.model.specs.Nodes.{before, nodes, headOf, nodeOf};

@@ -8,7 +8,7 @@ use native.Mathlib.Omega.{arith}
 use lib.ListN.{length, getD, take, drop, length-append}
 use lib.Seq.{split-at}
 use Rattle.lists.proofs.Select.{getD-mem, mem-getD}
-use Rattle.lists.specs.Lists.{tabulate, same}
+use Rattle.lists.specs.Prelude.{tabulate, same}
 use Rattle.lists.proofs.Lists.{same-eq, eq-same, length-tabulate, getD-tabulate}
 use Rattle.lists.proofs.Order.{T-true, true-T}
 use Rattle.model.proofs.More.{Rising, rising-append, rising-weaken}

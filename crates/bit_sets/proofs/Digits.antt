@@ -15,7 +15,7 @@ use lib.Bits.{bitAnd, bitOr, and-step, and-shr, or-shr, and-mod, or-mod, and-sel
 use lib.Count.{ones, ones-step, trailingZeros, under}
 use lib.ListN.{length, drop, length-map}
 use Rattle.lists.proofs.Select.{select-ext, select-map}
-use Rattle.lists.specs.Lists.{tabulate, select}
+use Rattle.lists.specs.Prelude.{tabulate, select}
 use Rattle.bit_sets.specs.BitSets.{bitAt}
 use Rattle.bit_sets.proofs.More.{below-front, drop-one-map}
 

@@ -12,7 +12,7 @@ use lib.Bits.{bitAnd, bitOr, and-le-r, and-mask}
 use lib.Count.{ones, ones-le, trailingZeros}
 use lib.ListN.{length, drop}
 use Rattle.lists.proofs.Select.{mem-below, mem-select, select-below-ext, select-select}
-use Rattle.lists.specs.Lists.{tabulate, select}
+use Rattle.lists.specs.Prelude.{tabulate, select}
 use Rattle.bit_sets.specs.BitSets.{bitAt, bits}
 use Rattle.bit_sets.proofs.Digits.{bitsBelow, bitAt-or, bitAt-pow, bitsBelow-empty, length-bitsBelow, first-bitsBelow, rest-bitsBelow, digits-ext}
 

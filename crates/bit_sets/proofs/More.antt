@@ -3,7 +3,7 @@ use mathlib.Core.Path.{_≡_, refl, sym, _∙_, ap}
 use mathlib.Core.List.{List, [], _∷_, map}
 use Prim.Native.Nat.{ℕ, suc}
 use lib.ListN.{drop}
-use Rattle.lists.specs.Lists.{tabulate}
+use Rattle.lists.specs.Prelude.{tabulate}
 use Rattle.lists.proofs.Select.{tabulate-cons, map-tabulate}
 
 -- the numbers below n + 1 are 0 and one more than each number below n

@@ -1,6 +1,5 @@
 -- A number of 64 binary digits as a set of numbers below 64: i is in the set where digit i is 1.
-use Rattle.lists.specs.Prelude.{Bool, List, ℕ, _/_, _%_, _^_, eqb}
-use Rattle.lists.specs.Lists.{tabulate, select}
+use Rattle.lists.specs.Prelude.{Bool, List, ℕ, _/_, _%_, _^_, eqb, tabulate, select}
 
 -- is i in the set m
 unfoldable pub bitAt : ℕ → ℕ → Bool

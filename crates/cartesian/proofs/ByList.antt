@@ -9,7 +9,7 @@ use lib.IntN.{ℤ, pos}
 use lib.Signed.{leZ}
 use lib.ListN.{length, getD, take}
 use lib.Seq.{take-suc, take-length}
-use Rattle.lists.specs.Lists.{tabulate, lastBelow}
+use Rattle.lists.specs.Prelude.{tabulate, lastBelow}
 use Rattle.cartesian.specs.Distances.{seek, gap, distanceAt, distances}
 use Rattle.cartesian.proofs.Seek.{seek-le}
 

@@ -11,7 +11,7 @@ use lib.Dec.{leb}
 use lib.Signed.{leZ, ltZ, _≤ℤ_, _<ℤ_, ltZ-yes, ≤ℤ-refl, <ℤ-≤ℤ-trans}
 use lib.ListN.{length, getD, drop}
 use lib.Seq.{getD-drop}
-use Rattle.lists.specs.Lists.{lastBelow, tabulate}
+use Rattle.lists.specs.Prelude.{lastBelow, tabulate}
 use Rattle.lists.proofs.Lists.{lastBelow-le, lastBelow-no, length-tabulate, getD-tabulate}
 use Rattle.lists.proofs.Order.{T-true, leZ-not-ltZ, le-leZ, lt-leZ, <ℤ-≤ℤ}
 use Rattle.cartesian.specs.Distances.{seek, gap, distanceAt, distances, cut}

@@ -10,7 +10,7 @@ use lib.Dec.{T, eqb, eqb→eq, leb}
 use lib.IntN.{ℤ}
 use lib.ListN.{length, getD, take, drop, length-append, length-take, length-drop}
 use lib.Seq.{take-append-seam, drop-append-add, getD-append-seam, getD-append-add}
-use Rattle.lists.specs.Lists.{lastBelow}
+use Rattle.lists.specs.Prelude.{lastBelow}
 use Rattle.lists.proofs.Lists.{lastBelow-le, lastBelow-is}
 use Rattle.cartesian.specs.Tree.{Tree, leaf, node, tree}
 use Rattle.cartesian.specs.Distances.{distances, cut, cutFrom}

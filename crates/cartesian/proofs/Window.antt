@@ -7,7 +7,7 @@ use native.Mathlib.Nat.{add-zero, add-suc}
 use lib.IntN.{ℤ, pos}
 use lib.ListN.{length, getD, take, drop, length-drop}
 use lib.Seq.{ext-getD, getD-drop}
-use Rattle.lists.specs.Lists.{lastOf}
+use Rattle.lists.specs.Prelude.{lastOf}
 use Rattle.cartesian.specs.Distances.{distanceAt, distances, cut, cutFrom, suffixDistances}
 use Rattle.cartesian.proofs.Seek.{length-distances, getD-distances, distanceAt-drop}
 use Rattle.cartesian.proofs.ByList.{distances-take}

@@ -1,6 +1,5 @@
 -- Parent distances, and parent distances in a window. Document 01: Distance; Distances of a window.
-use Rattle.lists.specs.Prelude.{cond, List, [], _∷_, ℕ, zero, suc, _-_, ℤ, pos, leb, leZ, length, getD}
-use Rattle.lists.specs.Lists.{tabulate, lastBelow, lastOf}
+use Rattle.lists.specs.Prelude.{cond, List, [], _∷_, ℕ, zero, suc, _-_, ℤ, pos, leb, leZ, length, getD, tabulate, lastBelow, lastOf}
 
 -- one more than the greatest place below n whose value is not above x; 0 where there is none
 abbrev pub seek : List ℤ → ℤ → ℕ → ℕ

@@ -1,6 +1,5 @@
 -- The tree that a list of parent distances stands for: the tree of any values that have these distances (law `treeOf-distances`).
-use Rattle.lists.specs.Prelude.{List, [], _∷_, ℕ, zero, suc, pred, eqb, length, getD, take, drop}
-use Rattle.lists.specs.Lists.{lastBelow}
+use Rattle.lists.specs.Prelude.{List, [], _∷_, ℕ, zero, suc, pred, eqb, length, getD, take, drop, lastBelow}
 use Rattle.cartesian.specs.Tree.{Tree, leaf, node}
 use Rattle.cartesian.specs.Distances.{cutFrom}
 

@@ -5,7 +5,7 @@ use Prim.Native.Nat.{ℕ, _<_}
 use lib.IntN.{ℤ}
 use lib.ListN.{getD, take}
 use lib.Seq.{getD-take}
-use Rattle.lists.specs.Lists.{tabulate}
+use Rattle.lists.specs.Prelude.{tabulate}
 use Rattle.lists.proofs.Lists.{getD-tabulate}
 use Rattle.cartesian.specs.Distances.{distanceAt}
 

@@ -5,7 +5,7 @@ ghost use Prim.Native.Nat.{_≤_, _<_};
 ghost use lib.ListN.{length, getD, take, drop};
 ghost use lib.IntN.{pos};
 ghost use lib.Signed.{leZ};
-ghost use Rattle.lists.specs.Lists.{tabulate};
+ghost use Rattle.lists.specs.Prelude.{tabulate};
 ghost use Rattle.cartesian.specs.Distances.{seek, distanceAt, distances};
 
 fn wide(x: u32) -> usize

@@ -13,7 +13,7 @@ use borrow.Author.Tests.{le-leb, lt-leb, eq-eqb, eqb-true, eqb-false}
 use lib.Dec.{T, eqb}
 use lib.ListN.{length, getD, take, drop, length-drop}
 use lib.Seq.{length-take-le, getD-take, getD-drop, ext-getD}
-use Rattle.lists.specs.Lists.{tabulate, lastBelow, lastOf}
+use Rattle.lists.specs.Prelude.{tabulate, lastBelow, lastOf}
 use Rattle.lists.proofs.Order.{true-T}
 use Rattle.lists.proofs.Lists.{getD-tabulate, lastBelow-le, lastBelow-passes, lastBelow-none, lastBelow-skip}
 use Rattle.cartesian.specs.Tree.{tree, sameTree}

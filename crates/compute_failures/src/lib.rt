@@ -5,7 +5,7 @@ ghost use mathlib.Core.List.{_++_};
 ghost use Prim.Native.Nat.{suc, _≤_, _<_};
 ghost use lib.Dec.{eqb};
 ghost use lib.ListN.{length, getD, take, drop};
-ghost use Rattle.lists.specs.Lists.{tabulate};
+ghost use Rattle.lists.specs.Prelude.{tabulate};
 ghost use Rattle.cartesian.specs.Distances.{cut};
 ghost use Rattle.realization.specs.Realizable.{realizable};
 ghost use Rattle.realization.specs.FailureLength.{failureLength, failureLengths};

@@ -11,7 +11,7 @@ use borrow.Author.Tests.{eq-eqb, ne-eqb, lt-ltb}
 use lib.Dec.{eqb, ltb, ltb→lt}
 use lib.ListN.{length, getD, drop, set, length-append, length-drop}
 use lib.Seq.{set-append-left}
-use Rattle.lists.specs.Lists.{tabulate, lastBelow}
+use Rattle.lists.specs.Prelude.{tabulate, lastBelow}
 use Rattle.lists.proofs.Lists.{and-split, lastBelow-zero, length-tabulate, tabulate-ext, tabulate-more}
 use Rattle.realization.specs.Realizable.{realizable}
 use Rattle.global_parents.specs.GlobalParents.{isPrefixChild, globalParent, globalParents}

@@ -11,7 +11,7 @@ use native.Mathlib.Decide.{decLt}
 use borrow.Author.Tests.{ltb-false, eq-eqb, ne-eqb, lt-ltb, le-ltb}
 use lib.Dec.{T, eqb, ltb}
 use lib.ListN.{length, getD}
-use Rattle.lists.specs.Lists.{lastBelow}
+use Rattle.lists.specs.Prelude.{lastBelow}
 use Rattle.lists.proofs.Order.{T-true}
 use Rattle.lists.proofs.Lists.{lastBelow-le, lastBelow-is, lastBelow-skip}
 use Rattle.cartesian.specs.Tree.{Tree, size}

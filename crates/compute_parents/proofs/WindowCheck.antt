@@ -8,7 +8,7 @@ use lib.Dec.{ltb}
 use lib.IntN.{ℤ, pos}
 use lib.Signed.{leZ, ltZ, leZ-yes, ltZ-yes}
 use lib.ListN.{length, getD}
-use Rattle.lists.specs.Lists.{lastBelow}
+use Rattle.lists.specs.Prelude.{lastBelow}
 use Rattle.lists.proofs.Lists.{test-ext, lastBelow-le, length-tabulate, getD-tabulate}
 use Rattle.lists.proofs.Order.{T-true, true-T}
 use Rattle.lists.proofs.Places.{all-below, below-all}

@@ -4,7 +4,7 @@ use mathlib.Core.List.{List}
 use Prim.Native.Nat.{ℕ, _<_}
 use lib.IntN.{ℤ}
 use lib.ListN.{length, getD}
-use Rattle.lists.specs.Lists.{tabulate, all}
+use Rattle.lists.specs.Prelude.{tabulate, all}
 use Rattle.global_parents.specs.GlobalParents.{passesAt}
 
 -- every value of a window passes the comparison with the value at its place's parent

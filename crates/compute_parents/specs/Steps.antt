@@ -5,7 +5,7 @@ use mathlib.Core.Option.{Option, none, some}
 use Prim.Native.Nat.{ℕ, zero, suc, _+_, _-_}
 use lib.Dec.{eqb, ltb}
 use lib.ListN.{getD, set, take}
-use Rattle.lists.specs.Lists.{lastBelow}
+use Rattle.lists.specs.Prelude.{lastBelow}
 use Rattle.cartesian.specs.TreeOf.{treeOf}
 use Rattle.global_parents.specs.GlobalParents.{lastLeftChild, isPrefixChild}
 

@@ -4,7 +4,7 @@ ghost use mathlib.Core.Bool.{true};
 ghost use mathlib.Core.List.{_++_};
 ghost use Prim.Native.Nat.{_+_, _-_, _≤_, _<_};
 ghost use lib.ListN.{length, getD, drop};
-ghost use Rattle.lists.specs.Lists.{lastBelow};
+ghost use Rattle.lists.specs.Prelude.{lastBelow};
 ghost use Rattle.realization.specs.Realizable.{realizable};
 ghost use Rattle.global_parents.specs.GlobalParents.{globalParents, passesAt};
 ghost use Rattle.compute_parents.specs.Passes.{passesParents, ParentsArePlaces};

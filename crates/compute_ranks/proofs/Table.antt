@@ -4,7 +4,7 @@ use mathlib.Core.List.{List}
 use Prim.Native.Nat.{ℕ, _<_}
 use lib.Dec.{T}
 use lib.ListN.{getD}
-use Rattle.lists.specs.Lists.{tabulate, same}
+use Rattle.lists.specs.Prelude.{tabulate, same}
 use Rattle.lists.proofs.Lists.{same-eq, getD-tabulate}
 use Rattle.ranking.specs.Rank.{factorial}
 

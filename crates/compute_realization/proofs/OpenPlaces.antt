@@ -10,7 +10,7 @@ use borrow.Author.Tests.{eq-eqb, ne-eqb, leb-true, leb-false}
 use lib.Dec.{eqb, leb, eqb·suc-suc, eqb·zero-suc}
 use lib.ListN.{length, getD, drop, drop-of-length-le}
 use lib.Seq.{drop-cons}
-use Rattle.lists.specs.Lists.{any, select}
+use Rattle.lists.specs.Prelude.{any, select}
 use Rattle.realization.specs.Realizable.{leads, opened, walk}
 use Rattle.compute_realization.specs.OpenPlaces.{openPlaces}
 

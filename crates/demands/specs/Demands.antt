@@ -1,8 +1,7 @@
 -- The three demands, as they follow from the entries' promises: each promise equals definitions of `model`, and these are statements about them.
 use mathlib.Core.Logic.{_↔_}
 use mathlib.Core.List.{List·Memᴰ}
-use Rattle.lists.specs.Prelude.{_≡_, List, [], ℕ, zero, suc, _≤_, _<_, T, ℤ, length, getD, take}
-use Rattle.lists.specs.Lists.{lastOf}
+use Rattle.lists.specs.Prelude.{_≡_, List, [], ℕ, zero, suc, _≤_, _<_, T, ℤ, length, getD, take, lastOf}
 use Rattle.answers.specs.declared.SearchState.{SearchState}
 use Rattle.cartesian.specs.Tree.{tree}
 use Rattle.cartesian.specs.Distances.{distances}
@@ -12,18 +11,17 @@ use Rattle.realization.specs.LeastRealization.{IsLeast, leastRealization}
 use Rattle.pattern_set.specs.PatternSet.{PatternSet}
 use Rattle.matching.specs.Hits.{hits}
 use Rattle.matching.specs.HitOrder.{Ordered}
-use Rattle.model.specs.Refusals.{tell, tellTwo, leave}
-use Rattle.model.specs.Step.{Called}
-use Rattle.model.specs.SearchEntries.{tellCalled, handBack}
+use Rattle.model.specs.Refusals.{Entry, firstMet, told, after}
+use Rattle.model.specs.SearchEntries.{streamConditions, streamState}
 use Rattle.runs.specs.RunTheorem.{RunTheorem}
 
--- Demand 1. The entries ask nothing of their callers, and refuse on the conditions that `model` lists; what a refusal with number r + 1 tells and leaves:
+-- Demand 1. The entries ask nothing of their callers, and each refuses on the conditions that `model` lists for it. A refused call
 pub record Demand1 : Type 1 where
-  -- counts are 0
-  pub told : (r m n : ℕ) (c : Called SearchState) → (tell (suc r) n ≡ (suc r, 0)) × (tellTwo (suc r) m n ≡ (suc r, 0, 0)) × (tellCalled (suc r) c ≡ (suc r, 0, 0, 0, 0))
-  -- every word is as it was, and the state comes back as given
-  pub untouched : {A : Type 0} (r : ℕ) (result array : List A) → leave (suc r) result array ≡ array
-  pub handedBack : (r : ℕ) (c : Called SearchState) (st : SearchState) → handBack (suc r) c st ≡ st
+  -- tells the number and no count
+  pub tells : {C A : Type 0} (none : C) (e : Entry C A) → 0 < firstMet (e .conditions) → told none e ≡ (firstMet (e .conditions), none)
+  -- leaves every word as it was, and hands the state back as given
+  pub leaves : {C A : Type 0} (e : Entry C A) (array : List A) → 0 < firstMet (e .conditions) → after e array ≡ array
+  pub handsBack : (ws automaton out : List ℕ) (st : SearchState) (xs : List ℤ) → 0 < firstMet (streamConditions ws automaton st xs out) → streamState ws automaton st xs out ≡ st
 
 -- Demand 2. Distances are those of the Cartesian tree; a list is accepted only if some values have it, and then such values are written; the filter search lists every pair of equal trees and no others
 pub record Demand2 : Type 0 where

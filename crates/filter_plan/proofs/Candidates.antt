@@ -7,7 +7,7 @@ use lib.Dec.{T}
 use lib.IntN.{ℤ}
 use lib.ListN.{length, getD, take, length-map}
 use Rattle.lists.proofs.Select.{getD-mem}
-use Rattle.lists.specs.Lists.{select}
+use Rattle.lists.specs.Prelude.{select}
 use Rattle.lists.proofs.Lists.{tabulate-getD}
 use Rattle.pattern_set.specs.PatternSet.{PatternSet, goodSet}
 use Rattle.matching.specs.Hits.{lastHits, hitsAt, hits}

@@ -7,7 +7,7 @@ use native.Mathlib.Nat.{le-refl, le-trans, le-min, min-le-left, min-le-right}
 use lib.Dec.{T, eqb, leb, eqb→eq, eqb-refl, leb→le}
 use lib.IntN.{ℤ}
 use lib.ListN.{length}
-use Rattle.lists.specs.Lists.{lastOf}
+use Rattle.lists.specs.Prelude.{lastOf}
 use Rattle.lists.proofs.Lists.{and-split, and-join, test-ext, lastOf-lastOf}
 use Rattle.cartesian.specs.Tree.{tree, sameTree}
 use Rattle.cartesian.specs.TreeOf.{treeOf}

@@ -10,7 +10,7 @@ use native.Mathlib.Decide.{decLt}
 use lib.Dec.{T}
 use lib.ListN.{length, getD, length-append}
 use Rattle.lists.proofs.Select.{getD-mem, mem-select, mem-below, select-append, select-select, tabulate-cons}
-use Rattle.lists.specs.Lists.{tabulate, select}
+use Rattle.lists.specs.Prelude.{tabulate, select}
 use Rattle.lists.proofs.Lists.{tabulate-ext}
 use Rattle.lists.proofs.Members.{flatten-tabulate}
 use Rattle.lists.proofs.Order.{T-true}

@@ -12,7 +12,7 @@ use lib.Dec.{T, eqb, leb, ltb, eqb→eq, ltb→lt}
 use lib.IntN.{ℤ}
 use lib.ListN.{length, getD}
 use lib.Pow.{pow-mono, field}
-use Rattle.lists.specs.Lists.{tabulate, select}
+use Rattle.lists.specs.Prelude.{tabulate, select}
 use Rattle.lists.proofs.Lists.{and-split, and-join, test-ext, tabulate-getD}
 use Rattle.lists.proofs.Order.{T-true}
 use Rattle.bit_sets.specs.BitSets.{bitAt, bits}
@@ -54,8 +54,8 @@ bytes-eq a b =
     and-join (eqb (b % 256) (a % 256)) (eqb (b / 256) (a / 256)) (T-true (eqb (b % 256) (a % 256)) (eq-eqb (b % 256) (a % 256) (omega arith))) (T-true (eqb (b / 256) (a / 256)) (eq-eqb (b / 256) (a / 256) (omega arith))))
 
 -- the bytes of the lowest n bits
-low-byte : (k n : ℕ) → k % 256 % 2 ^ min 8 n ≡ k % 2 ^ n % 256
-low-byte k n = go (decLt n 8)
+lower-byte : (k n : ℕ) → k % 256 % 2 ^ min 8 n ≡ k % 2 ^ n % 256
+lower-byte k n = go (decLt n 8)
   where
     go : Dec (n < 8) → k % 256 % 2 ^ min 8 n ≡ k % 2 ^ n % 256
     go (yes l) =
@@ -94,7 +94,7 @@ own-tests text p h =
     let t = textKey (ownLength p) text in
     let q = patternKey (ownLength p) p in
     let e : t ≡ K % 2 ^ n = textKey-part (ownLength p) 17 text (le-min (omega arith) h) (min-le-left 17 (length p)) in
-    ap₂ (λ (x y : ℕ). eqb x (q % 256) && eqb y (q / 256)) (low-byte K n ∙ ap (λ (x : ℕ). x % 256) (sym e)) (high-byte K n ∙ ap (λ (x : ℕ). x / 256) (sym e))
+    ap₂ (λ (x y : ℕ). eqb x (q % 256) && eqb y (q / 256)) (lower-byte K n ∙ ap (λ (x : ℕ). x % 256) (sym e)) (high-byte K n ∙ ap (λ (x : ℕ). x / 256) (sym e))
     ∙ bytes-eq q t
     ∙ eqb-comm q t
   where
@@ -144,10 +144,10 @@ module _ (ps : PatternSet) (text : List ℤ) (good : T (goodSet ps)) (some : 1 �
         (omega arith, omega arith)
 
     -- CANDIDATES: what the sets at the bytes of the set's key and at the last place have in common
-    pub candidate-bit : (low high fits : List ℕ) → Holds ps (keyLow b) low → Holds ps (keyHigh b) high → Holds ps fitsAt fits → (r : ℕ) → r < 64
-        → ((bitAt (getD low (textKey b text % 256) 0) r && bitAt (getD high (textKey b text / 256) 0) r) && bitAt (getD fits (lastPlace (length text)) 0) r) ≡ (ltb r (length ps) && isCandidate b text (ranked ps r))
+    pub candidate-bit : (lower high fits : List ℕ) → Holds ps (keyLow b) lower → Holds ps (keyHigh b) high → Holds ps fitsAt fits → (r : ℕ) → r < 64
+        → ((bitAt (getD lower (textKey b text % 256) 0) r && bitAt (getD high (textKey b text / 256) 0) r) && bitAt (getD fits (lastPlace (length text)) 0) r) ≡ (ltb r (length ps) && isCandidate b text (ranked ps r))
     unfolding isCandidate
-    candidate-bit low high fits l h f r k =
+    candidate-bit lower high fits l h f r k =
         let key = textKey b text in
         let p = ranked ps r in
         ap₂ _&&_ (ap₂ _&&_ (l (key % 256) (set-key-bytes .0) r k) (h (key / 256) (set-key-bytes .1) r k)) (f (lastPlace (length text)) place-lt r k)
@@ -155,19 +155,19 @@ module _ (ps : PatternSet) (text : List ℤ) (good : T (goodSet ps)) (some : 1 �
         (λ t. ap₂ _&&_ (key-tests b key p) (fits-test (length text) p some (good-pattern ps p good (ranked-mem r t) .1))
         ∙ and-comm (eqb key (patternKey b p)) (leb (length p) (length text)))
 
-    pub candidate-word : (low high fits : List ℕ) → Holds ps (keyLow b) low → Holds ps (keyHigh b) high → Holds ps fitsAt fits → (r : ℕ) → r < 64
-        → bitAt (bitAnd (bitAnd (getD low (textKey b text % 256) 0) (getD high (textKey b text / 256) 0)) (getD fits (lastPlace (length text)) 0)) r ≡ (ltb r (length ps) && isCandidate b text (ranked ps r))
-    candidate-word low high fits l h f r k =
-        let x = getD low (textKey b text % 256) 0 in
+    pub candidate-word : (lower high fits : List ℕ) → Holds ps (keyLow b) lower → Holds ps (keyHigh b) high → Holds ps fitsAt fits → (r : ℕ) → r < 64
+        → bitAt (bitAnd (bitAnd (getD lower (textKey b text % 256) 0) (getD high (textKey b text / 256) 0)) (getD fits (lastPlace (length text)) 0)) r ≡ (ltb r (length ps) && isCandidate b text (ranked ps r))
+    candidate-word lower high fits l h f r k =
+        let x = getD lower (textKey b text % 256) 0 in
         let y = getD high (textKey b text / 256) 0 in
         let z = getD fits (lastPlace (length text)) 0 in
-        bitAt-and (bitAnd x y) z r ∙ ap (λ (q : Bool). q && bitAt z r) (bitAt-and x y r) ∙ candidate-bit low high fits l h f r k
+        bitAt-and (bitAnd x y) z r ∙ ap (λ (q : Bool). q && bitAt z r) (bitAt-and x y r) ∙ candidate-bit lower high fits l h f r k
 
     -- LIKELY PATTERNS: the candidates that the own tables have at the bytes of the key of 17 values
-    pub likely-bit : (m : ℕ) (low high : List ℕ) → ((r : ℕ) → r < 64 → bitAt m r ≡ (ltb r (length ps) && isCandidate b text (ranked ps r))) → Holds ps ownLow low → Holds ps ownHigh high → (r : ℕ) → r < 64
-        → ((bitAt m r && bitAt (getD low (textKey 17 text % 256) 0) r) && bitAt (getD high (textKey 17 text / 256) 0) r) ≡ (ltb r (length ps) && isLikely text (ranked ps r))
+    pub likely-bit : (m : ℕ) (lower high : List ℕ) → ((r : ℕ) → r < 64 → bitAt m r ≡ (ltb r (length ps) && isCandidate b text (ranked ps r))) → Holds ps ownLow lower → Holds ps ownHigh high → (r : ℕ) → r < 64
+        → ((bitAt m r && bitAt (getD lower (textKey 17 text % 256) 0) r) && bitAt (getD high (textKey 17 text / 256) 0) r) ≡ (ltb r (length ps) && isLikely text (ranked ps r))
     unfolding isCandidate isLikely
-    likely-bit m low high c l h r k =
+    likely-bit m lower high c l h r k =
         let p = ranked ps r in
         ap₂ _&&_ (ap₂ _&&_ (c r k) (l (textKey 17 text % 256) (own-key-bytes .0) r k)) (h (textKey 17 text / 256) (own-key-bytes .1) r k)
         ∙ common-bit (ltb r (length ps)) (isCandidate b text p) (ownLow (textKey 17 text % 256) p) (ownHigh (textKey 17 text / 256) p) (isLikely text p)
@@ -184,10 +184,10 @@ module _ (ps : PatternSet) (text : List ℤ) (good : T (goodSet ps)) (some : 1 �
             (λ t. and-join (isCandidate b text p) e (likely-candidate b text p (omega (arith, shortest-positive 17 ps good (omega arith))) (omega (arith, shortest-own ps p m)) t) (and-split (leb (length p) (length text)) e t .1))
 
   -- the same with no candidates found before: the own tables and the last place
-  pub own-bit : (low high fits : List ℕ) → Holds ps ownLow low → Holds ps ownHigh high → Holds ps fitsAt fits → (r : ℕ) → r < 64
-      → ((bitAt (getD low (textKey 17 text % 256) 0) r && bitAt (getD high (textKey 17 text / 256) 0) r) && bitAt (getD fits (lastPlace (length text)) 0) r) ≡ (ltb r (length ps) && isLikely text (ranked ps r))
+  pub own-bit : (lower high fits : List ℕ) → Holds ps ownLow lower → Holds ps ownHigh high → Holds ps fitsAt fits → (r : ℕ) → r < 64
+      → ((bitAt (getD lower (textKey 17 text % 256) 0) r && bitAt (getD high (textKey 17 text / 256) 0) r) && bitAt (getD fits (lastPlace (length text)) 0) r) ≡ (ltb r (length ps) && isLikely text (ranked ps r))
   unfolding isLikely
-  own-bit low high fits l h f r k =
+  own-bit lower high fits l h f r k =
       let p = ranked ps r in
       ap₂ _&&_ (ap₂ _&&_ (l (textKey 17 text % 256) (own-key-bytes .0) r k) (h (textKey 17 text / 256) (own-key-bytes .1) r k)) (f (lastPlace (length text)) place-lt r k)
       ∙ common-bit (ltb r (length ps)) (ownLow (textKey 17 text % 256) p) (ownHigh (textKey 17 text / 256) p) (fitsAt (lastPlace (length text)) p) (isLikely text p)

@@ -13,14 +13,14 @@ ranked ps r = getD ps (getD (hitOrder ps) r 0) []
 abbrev pub Holds : PatternSet → (ℕ → List ℕ → Bool) → List ℕ → Type 0
 Holds ps test table = (v : ℕ) → v < 256 → (r : ℕ) → r < 64 → bitAt (getD table v 0) r ≡ (ltb r (length ps) && test v (ranked ps r))
 
--- by the low and by the high byte of the fingerprint of the last b values
+-- by the lower and by the high byte of the fingerprint of the last b values
 abbrev pub keyLow : ℕ → ℕ → List ℕ → Bool
 keyLow b v p = eqb (patternKey b p % 256) v
 
 abbrev pub keyHigh : ℕ → ℕ → List ℕ → Bool
 keyHigh b v p = eqb (patternKey b p / 256) v
 
--- by the low and by the high byte of the text's fingerprint of 17 values, of which a pattern compares as many bits as its own has
+-- by the lower and by the high byte of the text's fingerprint of 17 values, of which a pattern compares as many bits as its own has
 abbrev pub ownLow : ℕ → List ℕ → Bool
 ownLow v p = eqb (v % 2 ^ min 8 (ownLength p - 1)) (patternKey (ownLength p) p % 256)
 

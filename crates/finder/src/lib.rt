@@ -1,59 +1,67 @@
 // The finder's entries. A caller lists this crate and `answers`, which declares the answers, the refusals and the search
 // state. No entry asks anything of its caller: each answers, or refuses by document 01's number and changes no word.
 ghost use mathlib.Core.Path.{_≡_};
-ghost use lib.ListN.{length};
-ghost use Rattle.answers.specs.Told.{toldWritten, toldEncoded, toldSize};
-ghost use Rattle.model.specs.PatternEntries.{distancesTold, distancesAfter, listTold, leastRealizationAfter, globalParentsAfter, failureLengthsAfter, encodeTold, decodeTold, decodeAfter};
-ghost use Rattle.model.specs.SetEntries.{emptySetTold, emptySetAfter, checkTold, addTold, addAfter};
+ghost use Rattle.answers.specs.Told.{toldWritten, toldEncoded, toldSize, toldBuilt, toldFiltered, toldStreamed};
+ghost use Rattle.realization.specs.LeastRealization.{leastRealization};
+ghost use Rattle.realization.specs.FailureLength.{failureLengths};
+ghost use Rattle.global_parents.specs.GlobalParents.{globalParents};
+ghost use Rattle.model.specs.Refusals.{told, after};
+ghost use Rattle.model.specs.PatternEntries.{distancesEntry, listEntry, encodeEntry, decodeEntry};
+ghost use Rattle.model.specs.SetEntries.{emptySetEntry, checkEntry, addEntry};
+ghost use Rattle.model.specs.SearchEntries.{buildEntry, streamEntry, streamState, filterEntry};
+use answers::Built;
 use answers::Encoded;
+use answers::Filtered;
+use answers::SearchState;
 use answers::SetSize;
+use answers::Streamed;
 use answers::Written;
 
 // ---- one pattern
 
 // Writes the parent distances of the values. Refuses 1 2 10.
 pub fn distances(values: &[i32], out: &mut [u32]) -> Written
-    ensures { λ r. ⌜ toldWritten r ≡ distancesTold (now (values .entry)) (now (out .entry)) ⌝ }
-    ensures { λ _. ⌜ now (out .exit) ≡ distancesAfter (now (values .entry)) (now (out .entry)) ⌝ }
+    ensures { λ r. ⌜ toldWritten r ≡ told 0 (distancesEntry (now (values .entry)) (now (out .entry))) ⌝ }
+    ensures { λ _. ⌜ now (out .exit) ≡ after (distancesEntry (now (values .entry)) (now (out .entry))) (now (out .entry)) ⌝ }
 {
     pattern::distances(values, out)
 }
 
 // Writes the least values that have the distances. Refuses 1 2 4 10.
 pub fn least_realization(ds: &[u32], out: &mut [i32]) -> Written
-    ensures { λ r. ⌜ toldWritten r ≡ listTold (now (ds .entry)) (length (now (out .entry))) ⌝ }
-    ensures { λ _. ⌜ now (out .exit) ≡ leastRealizationAfter (now (ds .entry)) (now (out .entry)) ⌝ }
+    ensures { λ r. ⌜ toldWritten r ≡ told 0 (listEntry leastRealization (now (ds .entry)) (now (out .entry))) ⌝ }
+    ensures { λ _. ⌜ now (out .exit) ≡ after (listEntry leastRealization (now (ds .entry)) (now (out .entry))) (now (out .entry)) ⌝ }
 {
     pattern::least_realization(ds, out)
 }
 
 // Writes the global parent of each place. Refuses 1 2 4 10.
 pub fn global_parents(ds: &[u32], out: &mut [u32]) -> Written
-    ensures { λ r. ⌜ toldWritten r ≡ listTold (now (ds .entry)) (length (now (out .entry))) ⌝ }
-    ensures { λ _. ⌜ now (out .exit) ≡ globalParentsAfter (now (ds .entry)) (now (out .entry)) ⌝ }
+    ensures { λ r. ⌜ toldWritten r ≡ told 0 (listEntry globalParents (now (ds .entry)) (now (out .entry))) ⌝ }
+    ensures { λ _. ⌜ now (out .exit) ≡ after (listEntry globalParents (now (ds .entry)) (now (out .entry))) (now (out .entry)) ⌝ }
 {
     pattern::global_parents(ds, out)
 }
 
 // Writes the failure length of each head, from the head of one distance up. Refuses 1 2 4 10.
 pub fn failure_lengths(ds: &[u32], out: &mut [u32]) -> Written
-    ensures { λ r. ⌜ toldWritten r ≡ listTold (now (ds .entry)) (length (now (out .entry))) ⌝ }
-    ensures { λ _. ⌜ now (out .exit) ≡ failureLengthsAfter (now (ds .entry)) (now (out .entry)) ⌝ }
+    ensures { λ r. ⌜ toldWritten r ≡ told 0 (listEntry failureLengths (now (ds .entry)) (now (out .entry))) ⌝ }
+    ensures { λ _. ⌜ now (out .exit) ≡ after (listEntry failureLengths (now (ds .entry)) (now (out .entry))) (now (out .entry)) ⌝ }
 {
     pattern::failure_lengths(ds, out)
 }
 
 // Tells the rank of a list of at most 20 distances. Refuses 1 2 3 4.
 pub fn encode(ds: &[u32]) -> Encoded
-    ensures { λ r. ⌜ toldEncoded r ≡ encodeTold (now (ds .entry)) ⌝ }
+    ensures { λ r. ⌜ toldEncoded r ≡ told 0 (encodeEntry (now (ds .entry))) ⌝ }
 {
     pattern::encode(ds)
 }
 
 // Writes the n distances whose rank is the code. Refuses 1 3 4 10.
 pub fn decode(n: usize, code: u64, out: &mut [u32]) -> Written
-    ensures { λ r. ⌜ toldWritten r ≡ decodeTold n code (length (now (out .entry))) ⌝ }
-    ensures { λ _. ⌜ now (out .exit) ≡ decodeAfter n code (now (out .entry)) ⌝ }
+    ensures { λ r. ⌜ toldWritten r ≡ told 0 (decodeEntry n code (now (out .entry))) ⌝ }
+    ensures { λ _. ⌜ now (out .exit) ≡ after (decodeEntry n code (now (out .entry))) (now (out .entry)) ⌝ }
 {
     pattern::decode(n, code, out)
 }
@@ -62,23 +70,57 @@ pub fn decode(n: usize, code: u64, out: &mut [u32]) -> Written
 
 // Writes the words of the empty set. Refuses 10.
 pub fn empty_set(out: &mut [u32]) -> Written
-    ensures { λ r. ⌜ toldWritten r ≡ emptySetTold (now (out .entry)) ⌝ }
-    ensures { λ _. ⌜ now (out .exit) ≡ emptySetAfter (now (out .entry)) ⌝ }
+    ensures { λ r. ⌜ toldWritten r ≡ told 0 (emptySetEntry (now (out .entry))) ⌝ }
+    ensures { λ _. ⌜ now (out .exit) ≡ after (emptySetEntry (now (out .entry))) (now (out .entry)) ⌝ }
 {
     set_arrays::empty_set(out)
 }
 
 // Tells the patterns and distances of a set array. Refuses 5.
 pub fn check_set(words: &[u32]) -> SetSize
-    ensures { λ r. ⌜ toldSize r ≡ checkTold (now (words .entry)) ⌝ }
+    ensures { λ r. ⌜ toldSize r ≡ told (0, 0) (checkEntry (now (words .entry))) ⌝ }
 {
     set_arrays::check_set(words)
 }
 
 // Adds a pattern, given as values, as the last one, in place; tells the size of the larger set. Refuses 1 2 5 6 10.
 pub fn add_pattern(words: &mut [u32], values: &[i32]) -> SetSize
-    ensures { λ r. ⌜ toldSize r ≡ addTold (now (words .entry)) (now (values .entry)) ⌝ }
-    ensures { λ _. ⌜ now (words .exit) ≡ addAfter (now (words .entry)) (now (values .entry)) ⌝ }
+    ensures { λ r. ⌜ toldSize r ≡ told (0, 0) (addEntry (now (words .entry)) (now (values .entry))) ⌝ }
+    ensures { λ _. ⌜ now (words .exit) ≡ after (addEntry (now (words .entry)) (now (values .entry))) (now (words .entry)) ⌝ }
 {
     set_arrays::add_pattern(words, values)
+}
+
+// ---- automaton and searches
+
+// Writes the automaton of a set that holds a pattern. Refuses 1 5 10.
+pub fn build_automaton(set: &[u32], out: &mut [u32]) -> Built
+    ensures { λ r. ⌜ toldBuilt r ≡ told (0, 0) (buildEntry (now (set .entry)) (now (out .entry))) ⌝ }
+    ensures { λ _. ⌜ now (out .exit) ≡ after (buildEntry (now (set .entry)) (now (out .entry))) (now (out .entry)) ⌝ }
+{
+    automaton::build_automaton(set, out)
+}
+
+// Searches on from a state, at first `SearchState::new()`: takes values until they end or the hit array may be too short for the hits of one more,
+// writes the hits that end at them, and hands the state back. Refuses 1 5 7 8 9 10.
+pub fn stream_search(
+    set: &[u32],
+    automaton: &[u32],
+    state: SearchState,
+    values: &[i32],
+    hits: &mut [u32],
+) -> Streamed
+    ensures { λ r. ⌜ toldStreamed (r .answer) ≡ told (0, 0, 0, 0) (streamEntry (now (set .entry)) (now (automaton .entry)) state (now (values .entry)) (now (hits .entry))) ⌝ }
+    ensures { λ r. ⌜ r .state ≡ streamState (now (set .entry)) (now (automaton .entry)) state (now (values .entry)) (now (hits .entry)) ⌝ }
+    ensures { λ _. ⌜ now (hits .exit) ≡ after (streamEntry (now (set .entry)) (now (automaton .entry)) state (now (values .entry)) (now (hits .entry))) (now (hits .entry)) ⌝ }
+{
+    stream_search::stream_search(set, automaton, state, values, hits)
+}
+
+// Lists the hits of a whole text: by last place, longer pattern first, then lower number; tells hits and candidates. Refuses 1 5 9 11.
+pub fn filter_search(set: &[u32], text: &[i32], hits: &mut [u32]) -> Filtered
+    ensures { λ r. ⌜ toldFiltered r ≡ told (0, 0) (filterEntry (now (set .entry)) (now (text .entry)) (now (hits .entry))) ⌝ }
+    ensures { λ _. ⌜ now (hits .exit) ≡ after (filterEntry (now (set .entry)) (now (text .entry)) (now (hits .entry))) (now (hits .entry)) ⌝ }
+{
+    filter_search::filter_search(set, text, hits)
 }

@@ -11,7 +11,7 @@ use lib.Dec.{eqb}
 use lib.IntN.{ℤ}
 use lib.Signed.{leZ}
 use lib.ListN.{length, length-append}
-use Rattle.lists.specs.Lists.{lastOf}
+use Rattle.lists.specs.Prelude.{lastOf}
 use Rattle.cartesian.specs.Tree.{tree}
 use Rattle.cartesian.specs.Distances.{distances, suffixDistances}
 use Rattle.cartesian.proofs.ByList.{back, distsFrom, distances-list}

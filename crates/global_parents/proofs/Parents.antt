@@ -11,7 +11,7 @@ use lib.Dec.{T, ltb, eqb→eq, eqb-refl, lt→ltb}
 use lib.IntN.{ℤ}
 use lib.ListN.{length, getD, take}
 use lib.Seq.{ext-getD}
-use Rattle.lists.specs.Lists.{lastBelow}
+use Rattle.lists.specs.Prelude.{lastBelow}
 use Rattle.lists.proofs.Lists.{and-split, and-join, length-tabulate, getD-tabulate, lastBelow-passes, lastBelow-le, lastBelow-none}
 use Rattle.cartesian.specs.Tree.{Tree, leaf, node, size, tree}
 use Rattle.cartesian.specs.TreeOf.{treeOf}

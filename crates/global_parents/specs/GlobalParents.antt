@@ -1,6 +1,5 @@
 -- Global parents. Document 01 (and 000): Global parent.
-use Rattle.lists.specs.Prelude.{Bool, true, false, cond, _&&_, _||_, List, [], _∷_, Option, none, some, ℕ, zero, suc, _+_, _-_, pred, ℤ, pos, eqb, leb, ltb, leZ, ltZ, length, getD, take}
-use Rattle.lists.specs.Lists.{tabulate, lastBelow, all}
+use Rattle.lists.specs.Prelude.{Bool, true, false, cond, _&&_, _||_, List, [], _∷_, Option, none, some, ℕ, zero, suc, _+_, _-_, pred, ℤ, pos, eqb, leb, ltb, leZ, ltZ, length, getD, take, tabulate, lastBelow, all}
 use Rattle.cartesian.specs.Tree.{Tree, leaf, node, size}
 use Rattle.cartesian.specs.TreeOf.{treeOf}
 

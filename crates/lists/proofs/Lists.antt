@@ -1,4 +1,4 @@
--- Laws of the functions of specs/Lists.antt.
+-- Laws of the functions on lists of specs/Prelude.antt.
 use mathlib.Core.Path.{_≡_, refl, sym, _∙_, ap, ap₂, subst}
 use mathlib.Core.Bool.{Bool, true, false, cond, not, _&&_, _||_}
 use mathlib.Core.Logic.{_⊎_, inl, inr, _↔_}
@@ -11,7 +11,7 @@ use native.Mathlib.Decide.{decLt}
 use lib.Dec.{T, eqb, eqb→eq, eqb-refl}
 use lib.ListN.{length, getD, take, drop, set, length-append, length-drop, drop-of-length-le, List·getD-append}
 use lib.Seq.{drop-cons, set-at, append-snoc, getD-at, ext-getD, take-append-seam, drop-drop, take-append-le, drop-append-le, getD-take}
-use Rattle.lists.specs.Lists.{tabulate, lastBelow, lastOf, any, all, select, same, begins}
+use Rattle.lists.specs.Prelude.{tabulate, lastBelow, lastOf, any, all, select, same, begins}
 
 -- ---- tests
 

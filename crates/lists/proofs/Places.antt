@@ -8,7 +8,7 @@ use native.Mathlib.Decide.{decLt}
 use lib.Dec.{T}
 use lib.ListN.{length, getD, take, drop, length-drop, List·getD-append}
 use lib.Seq.{getD-append-add, length-take-le, split-at}
-use Rattle.lists.specs.Lists.{tabulate, all}
+use Rattle.lists.specs.Prelude.{tabulate, all}
 use Rattle.lists.proofs.Lists.{and-split, and-join}
 
 -- a place is among the first n, or is place n, or is one of the m places after that

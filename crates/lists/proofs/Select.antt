@@ -8,7 +8,7 @@ use native.Mathlib.Decide.{decLt}
 use native.Mathlib.Omega.{arith}
 use lib.Dec.{T}
 use lib.ListN.{length, getD}
-use Rattle.lists.specs.Lists.{tabulate, select}
+use Rattle.lists.specs.Prelude.{tabulate, select}
 use Rattle.lists.proofs.Members.{map-append}
 
 -- ---- members by their places

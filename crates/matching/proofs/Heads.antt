@@ -12,7 +12,7 @@ use lib.Dec.{T, eqb·suc-zero}
 use lib.IntN.{ℤ, pos}
 use lib.ListN.{length, getD, take, drop, length-take, drop-of-length-le}
 use lib.Seq.{take-take, take-all, take-nil}
-use Rattle.lists.specs.Lists.{any, all, begins, same, lastBelow, lastOf}
+use Rattle.lists.specs.Prelude.{any, all, begins, same, lastBelow, lastOf}
 use Rattle.lists.proofs.Order.{T-true, true-T}
 use Rattle.lists.proofs.Lists.{any-mem, mem-any, all-mem, any-ext, test-ext, same-eq, eq-same, length-lastOf, lastOf-lastOf, lastOf-all, lastBelow-ext, lastBelow-le, lastBelow-passes, lastBelow-is, lastBelow-none}
 use Rattle.cartesian.specs.Tree.{Tree, leaf, treeWithin, tree, sameTree}

@@ -10,7 +10,7 @@ use native.Mathlib.Decide.{decLt}
 use lib.Dec.{T}
 use lib.IntN.{ℤ}
 use lib.ListN.{length, getD, take, length-take}
-use Rattle.lists.specs.Lists.{lastOf, lastBelow}
+use Rattle.lists.specs.Prelude.{lastOf, lastBelow}
 use Rattle.lists.proofs.Lists.{length-lastOf}
 use Rattle.lists.proofs.Order.{T-true}
 use Rattle.cartesian.specs.Tree.{leaf, node, leftmostFrom, leftmost, treeWithin, tree, sameTree}

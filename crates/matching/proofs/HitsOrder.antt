@@ -8,7 +8,7 @@ use native.Mathlib.Omega.{arith}
 use native.Mathlib.Nat.{add-zero, zero-add, le-refl}
 use lib.IntN.{ℤ}
 use lib.ListN.{length, getD, take}
-use Rattle.lists.specs.Lists.{tabulate, lastOf}
+use Rattle.lists.specs.Prelude.{tabulate, lastOf}
 use Rattle.lists.proofs.Lists.{length-lastOf}
 use Rattle.lists.proofs.Order.{T-true}
 use Rattle.pattern_set.specs.PatternSet.{PatternSet}

@@ -1,6 +1,5 @@
 -- Heads of patterns, and the failure of a head. Document 01: A ladder, its rungs and their falls.
-use Rattle.lists.specs.Prelude.{Bool, cond, List, [], _∷_, ℕ, zero, suc, pred, eqb, ℤ, length, take}
-use Rattle.lists.specs.Lists.{any, begins, lastBelow, lastOf}
+use Rattle.lists.specs.Prelude.{Bool, cond, List, [], _∷_, ℕ, zero, suc, pred, eqb, ℤ, length, take, any, begins, lastBelow, lastOf}
 use Rattle.cartesian.specs.Distances.{distances}
 use Rattle.realization.specs.LeastRealization.{leastRealization}
 use Rattle.pattern_set.specs.PatternSet.{PatternSet}

@@ -1,6 +1,5 @@
 -- Search hits, by trees of windows. Document 01: Hits of R; the order of a search's list.
-use Rattle.lists.specs.Prelude.{Bool, cond, List, [], _∷_, _++_, map, flatten, ℕ, zero, suc, ℤ, length, take}
-use Rattle.lists.specs.Lists.{tabulate, lastOf}
+use Rattle.lists.specs.Prelude.{Bool, cond, List, [], _∷_, _++_, map, flatten, ℕ, zero, suc, ℤ, length, take, tabulate, lastOf}
 use Rattle.cartesian.specs.Tree.{tree, sameTree}
 use Rattle.cartesian.specs.TreeOf.{treeOf}
 use Rattle.pattern_set.specs.PatternSet.{PatternSet}

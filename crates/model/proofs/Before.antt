@@ -9,7 +9,7 @@ use native.Mathlib.Decide.{decLt}
 use lib.Dec.{T, eqb, ltb, ltb→lt, lt→ltb, eqb→eq, eqb-refl}
 use lib.ListN.{length, take, drop, take-append-drop}
 use lib.Seq.{take-length}
-use Rattle.lists.specs.Lists.{begins}
+use Rattle.lists.specs.Prelude.{begins}
 use Rattle.lists.proofs.Lists.{and-split, and-join, or-cases, or-left, or-right, same-eq, eq-same}
 use Rattle.model.specs.Nodes.{before}
 

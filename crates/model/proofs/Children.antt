@@ -12,7 +12,7 @@ use lib.Dec.{T, eqb, eqb→eq}
 use lib.ListN.{length, getD, take, length-append}
 use lib.Seq.{take-suc, take-all, length-take-le, take-append-seam}
 use borrow.Author.Tests.{eq-eqb}
-use Rattle.lists.specs.Lists.{select, same}
+use Rattle.lists.specs.Prelude.{select, same}
 use Rattle.lists.proofs.Order.{T-true}
 use Rattle.lists.proofs.Lists.{and-split, and-join, same-eq, eq-same}
 use Rattle.pattern_set.specs.PatternSet.{PatternSet, goodSet}

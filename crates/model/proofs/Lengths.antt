@@ -7,7 +7,7 @@ use native.Mathlib.Omega.{arith}
 use lib.Dec.{leb}
 use lib.ListN.{length, take, length-take, length-append, length-map}
 use borrow.Author.Tests.{leb-true, leb-false}
-use Rattle.lists.specs.Lists.{tabulate, select}
+use Rattle.lists.specs.Prelude.{tabulate, select}
 use Rattle.lists.proofs.Lists.{length-tabulate}
 use Rattle.lists.proofs.Members.{flatten-tabulate}
 use Rattle.pattern_set.specs.PatternSet.{PatternSet}

@@ -8,7 +8,7 @@ use native.Mathlib.Omega.{arith}
 use lib.Dec.{T}
 use lib.ListN.{length, getD, take, drop, length-map}
 use Rattle.lists.proofs.Select.{getD-mem, mem-getD, map-tabulate, select-map, mem-select}
-use Rattle.lists.specs.Lists.{tabulate, select}
+use Rattle.lists.specs.Prelude.{tabulate, select}
 use Rattle.lists.proofs.Order.{T-true}
 use Rattle.lists.proofs.Lists.{length-tabulate, getD-tabulate, tabulate-getD}
 use Rattle.lists.proofs.Members.{map-append}

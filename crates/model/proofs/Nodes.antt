@@ -12,7 +12,7 @@ use lib.Dec.{T, leb, leb→le, le→leb}
 use lib.ListN.{length, getD, take, length-take, length-drop, drop-of-length-le}
 use lib.Seq.{length-take-le}
 use Rattle.lists.proofs.Select.{getD-mem, mem-select}
-use Rattle.lists.specs.Lists.{tabulate, select, any, all, same, begins, lastBelow, lastOf}
+use Rattle.lists.specs.Prelude.{tabulate, select, any, all, same, begins, lastBelow, lastOf}
 use Rattle.lists.proofs.Order.{T-true, true-T}
 use Rattle.lists.proofs.Lists.{and-split, same-eq, eq-same, same-refl, any-mem, mem-any, all-mem, mem-all, lastBelow-le, lastBelow-passes}
 use Rattle.lists.proofs.Members.{mem-map, mem-flatten-tabulate, flatten-tabulate}

@@ -8,7 +8,7 @@ use lib.ListN.{length, drop}
 use Rattle.answers.specs.declared.Refusal.{Refusal}
 use Rattle.answers.specs.declared.Refusal.the-variants.{Empty, TooLong, CodeTooLong, NotRealizable, BrokenSet, SetFull, OtherAutomaton, BrokenState, TextTooLong, ArrayTooShort, ListTooLong}
 use Rattle.answers.specs.Told.{number}
-use Rattle.model.specs.Refusals.{firstMet, tell, tellTwo, leave}
+use Rattle.model.specs.Refusals.{firstMet, unless}
 
 -- the first condition is met
 pub met : (n : ℕ) (b : Bool) (cs : List (ℕ × Bool)) → b ≡ true → firstMet ((n, b) ∷ cs) ≡ n
@@ -23,29 +23,29 @@ pub first-unmet : (n : ℕ) (b : Bool) (cs : List (ℕ × Bool)) → firstMet ((
 first-unmet n true cs e = absurd (let z : ⊥ = omega arith in z)
 first-unmet n false cs e = (refl, e)
 
--- what a refusal tells and leaves, by its number
-pub tell-refused : (r : Refusal) (n : ℕ) → tell (number r) n ≡ (number r, 0)
-tell-refused Empty n = refl
-tell-refused TooLong n = refl
-tell-refused CodeTooLong n = refl
-tell-refused NotRealizable n = refl
-tell-refused BrokenSet n = refl
-tell-refused SetFull n = refl
-tell-refused OtherAutomaton n = refl
-tell-refused BrokenState n = refl
-tell-refused TextTooLong n = refl
-tell-refused ArrayTooShort n = refl
-tell-refused ListTooLong n = refl
+-- ---- by the number of the refusal alone
 
-pub leave-refused : {A : Type 0} (r : Refusal) (result array : List A) → leave (number r) result array ≡ array
-leave-refused Empty result array = refl
-leave-refused TooLong result array = refl
-leave-refused CodeTooLong result array = refl
-leave-refused NotRealizable result array = refl
-leave-refused BrokenSet result array = refl
-leave-refused SetFull result array = refl
-leave-refused OtherAutomaton result array = refl
-leave-refused BrokenState result array = refl
-leave-refused TextTooLong result array = refl
-leave-refused ArrayTooShort result array = refl
-leave-refused ListTooLong result array = refl
+-- what is told: the number, and one count, or two
+abbrev pub tell : ℕ → ℕ → ℕ × ℕ
+tell r n = (r, unless r n 0)
+
+abbrev pub tellTwo : ℕ → ℕ → ℕ → ℕ × (ℕ × ℕ)
+tellTwo r m n = (r, unless r (m, n) (0, 0))
+
+-- what is left in the lent array
+abbrev pub leave : {A : Type 0} → ℕ → List A → List A → List A
+leave r result array = unless r (result ++ drop (length result) array) array
+
+-- a refusal of the list keeps what was
+pub unless-refused : {A : Type 0} (r : Refusal) (done kept : A) → unless (number r) done kept ≡ kept
+unless-refused Empty done kept = refl
+unless-refused TooLong done kept = refl
+unless-refused CodeTooLong done kept = refl
+unless-refused NotRealizable done kept = refl
+unless-refused BrokenSet done kept = refl
+unless-refused SetFull done kept = refl
+unless-refused OtherAutomaton done kept = refl
+unless-refused BrokenState done kept = refl
+unless-refused TextTooLong done kept = refl
+unless-refused ArrayTooShort done kept = refl
+unless-refused ListTooLong done kept = refl

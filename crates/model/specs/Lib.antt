@@ -7,5 +7,3 @@ pub mod AutomatonWords
 pub mod State
 pub mod Step
 pub mod SearchEntries
-pub mod ReferenceRun
-pub mod Observed

@@ -1,59 +1,26 @@
--- The entries on one pattern: when each refuses, what it tells, and what the lent array holds afterwards.
-use Rattle.lists.specs.Prelude.{not, List, [], _∷_, ℕ, eqb, ltb, ℤ, length}
+-- The entries on one pattern.
+use Rattle.lists.specs.Prelude.{Bool, not, List, [], _∷_, ℕ, eqb, ltb, ℤ, length}
 use Rattle.cartesian.specs.Distances.{distances}
 use Rattle.realization.specs.Realizable.{realizable}
-use Rattle.realization.specs.LeastRealization.{leastRealization}
-use Rattle.realization.specs.FailureLength.{failureLengths}
-use Rattle.global_parents.specs.GlobalParents.{globalParents}
 use Rattle.ranking.specs.Rank.{rank, unrank, isRank}
-use Rattle.model.specs.Refusals.{firstMet, tell, leave}
+use Rattle.model.specs.Refusals.{Entry}
 
--- ---- distances of values
+-- distances of values
+abbrev pub distancesEntry : List ℤ → List ℕ → Entry ℕ ℕ
+distancesEntry xs out = record { conditions = (1, eqb (length xs) 0) ∷ (2, ltb 256 (length xs)) ∷ (10, ltb (length out) (length xs)) ∷ []; counts = length xs; result = distances xs }
 
-abbrev pub distancesRefusal : List ℤ → List ℕ → ℕ
-distancesRefusal xs out = firstMet ((1, eqb (length xs) 0) ∷ (2, ltb 256 (length xs)) ∷ (10, ltb (length out) (length xs)) ∷ [])
+-- a list of distances, of which something as long goes into an array of the given room
+abbrev pub listConditions : List ℕ → ℕ → List (ℕ × Bool)
+listConditions ds room = (1, eqb (length ds) 0) ∷ (2, ltb 256 (length ds)) ∷ (4, not (realizable ds)) ∷ (10, ltb room (length ds)) ∷ []
 
-abbrev pub distancesTold : List ℤ → List ℕ → ℕ × ℕ
-distancesTold xs out = tell (distancesRefusal xs out) (length xs)
+-- least realization, global parents or failure lengths of a list of distances
+abbrev pub listEntry : {A : Type 0} → (List ℕ → List A) → List ℕ → List A → Entry ℕ A
+listEntry make ds out = record { conditions = listConditions ds (length out); counts = length ds; result = make ds }
 
-abbrev pub distancesAfter : List ℤ → List ℕ → List ℕ
-distancesAfter xs out = leave (distancesRefusal xs out) (distances xs) out
+-- code of a list of distances
+abbrev pub encodeEntry : List ℕ → Entry ℕ ℕ
+encodeEntry ds = record { conditions = (1, eqb (length ds) 0) ∷ (2, ltb 256 (length ds)) ∷ (3, ltb 20 (length ds)) ∷ (4, not (realizable ds)) ∷ []; counts = rank ds; result = [] }
 
--- ---- least realization, global parents and failure lengths of a list of distances, into an array of the given room
-
-abbrev pub listRefusal : List ℕ → ℕ → ℕ
-listRefusal ds room =
-    firstMet ((1, eqb (length ds) 0) ∷ (2, ltb 256 (length ds)) ∷ (4, not (realizable ds)) ∷ (10, ltb room (length ds)) ∷ [])
-
-abbrev pub listTold : List ℕ → ℕ → ℕ × ℕ
-listTold ds room = tell (listRefusal ds room) (length ds)
-
-abbrev pub leastRealizationAfter : List ℕ → List ℤ → List ℤ
-leastRealizationAfter ds out = leave (listRefusal ds (length out)) (leastRealization ds) out
-
-abbrev pub globalParentsAfter : List ℕ → List ℕ → List ℕ
-globalParentsAfter ds out = leave (listRefusal ds (length out)) (globalParents ds) out
-
-abbrev pub failureLengthsAfter : List ℕ → List ℕ → List ℕ
-failureLengthsAfter ds out = leave (listRefusal ds (length out)) (failureLengths ds) out
-
--- ---- code of a list of distances
-
-abbrev pub encodeRefusal : List ℕ → ℕ
-encodeRefusal ds =
-    firstMet ((1, eqb (length ds) 0) ∷ (2, ltb 256 (length ds)) ∷ (3, ltb 20 (length ds)) ∷ (4, not (realizable ds)) ∷ [])
-
-abbrev pub encodeTold : List ℕ → ℕ × ℕ
-encodeTold ds = tell (encodeRefusal ds) (rank ds)
-
--- ---- distances of a length and a code
-
-abbrev pub decodeRefusal : ℕ → ℕ → ℕ → ℕ
-decodeRefusal n code room =
-    firstMet ((1, eqb n 0) ∷ (3, ltb 20 n) ∷ (4, not (isRank n code)) ∷ (10, ltb room n) ∷ [])
-
-abbrev pub decodeTold : ℕ → ℕ → ℕ → ℕ × ℕ
-decodeTold n code room = tell (decodeRefusal n code room) n
-
-abbrev pub decodeAfter : ℕ → ℕ → List ℕ → List ℕ
-decodeAfter n code out = leave (decodeRefusal n code (length out)) (unrank n code) out
+-- distances of a length and a code
+abbrev pub decodeEntry : ℕ → ℕ → List ℕ → Entry ℕ ℕ
+decodeEntry n code out = record { conditions = (1, eqb n 0) ∷ (3, ltb 20 n) ∷ (4, not (isRank n code)) ∷ (10, ltb (length out) n) ∷ []; counts = n; result = unrank n code }

@@ -1,8 +1,8 @@
--- The entries on sets of patterns: when each refuses, what it tells, and what the lent array holds afterwards.
+-- The entries on sets of patterns.
 use Rattle.lists.specs.Prelude.{Bool, true, false, _||_, List, [], _∷_, _++_, flatten, Option, none, some, ℕ, _+_, eqb, leb, ltb, ℤ, length}
 use Rattle.cartesian.specs.Distances.{distances}
 use Rattle.pattern_set.specs.PatternSet.{PatternSet, setWords, readSet}
-use Rattle.model.specs.Refusals.{firstMet, tell, tellTwo, leave}
+use Rattle.model.specs.Refusals.{Entry}
 
 -- the array begins with no good set's words
 abbrev pub isBroken : Option PatternSet → Bool
@@ -19,37 +19,19 @@ abbrev pub isUnsearchable : Option PatternSet → Bool
 isUnsearchable none = false
 isUnsearchable (some ps) = eqb (length ps) 0
 
--- ---- the empty set
+-- the empty set
+abbrev pub emptySetEntry : List ℕ → Entry ℕ ℕ
+emptySetEntry out = record { conditions = (10, ltb (length out) 3) ∷ []; counts = 3; result = setWords [] }
 
-abbrev pub emptySetRefusal : List ℕ → ℕ
-emptySetRefusal out = firstMet ((10, ltb (length out) 3) ∷ [])
-
-abbrev pub emptySetTold : List ℕ → ℕ × ℕ
-emptySetTold out = tell (emptySetRefusal out) 3
-
-abbrev pub emptySetAfter : List ℕ → List ℕ
-emptySetAfter out = leave (emptySetRefusal out) (setWords []) out
-
--- ---- check of a set array
-
-abbrev pub checkTold : List ℕ → ℕ × ℕ × ℕ
-checkTold ws =
+-- check of a set array: patterns and distances
+abbrev pub checkEntry : List ℕ → Entry (ℕ × ℕ) ℕ
+checkEntry ws =
     let ps = setOf (readSet ws) in
-    tellTwo (firstMet ((5, isBroken (readSet ws)) ∷ [])) (length ps) (length (flatten ps))
+    record { conditions = (5, isBroken (readSet ws)) ∷ []; counts = (length ps, length (flatten ps)); result = [] }
 
--- ---- adding a pattern, given as values: it becomes the last one
-
-abbrev pub addRefusal : List ℕ → List ℤ → ℕ
-addRefusal ws xs =
+-- adding a pattern, given as values: it becomes the last one
+abbrev pub addEntry : List ℕ → List ℤ → Entry (ℕ × ℕ) ℕ
+addEntry ws xs =
     let ps = setOf (readSet ws) in
     let n = length (flatten ps) + length xs in
-    firstMet
-    ((1, eqb (length xs) 0) ∷ (2, ltb 256 (length xs)) ∷ (5, isBroken (readSet ws)) ∷ (6, leb 64 (length ps) || ltb 4096 n) ∷ (10, ltb (length ws) (4 + length ps + n)) ∷ [])
-
-abbrev pub addTold : List ℕ → List ℤ → ℕ × ℕ × ℕ
-addTold ws xs =
-    let ps = setOf (readSet ws) in
-    tellTwo (addRefusal ws xs) (length ps + 1) (length (flatten ps) + length xs)
-
-abbrev pub addAfter : List ℕ → List ℤ → List ℕ
-addAfter ws xs = leave (addRefusal ws xs) (setWords (setOf (readSet ws) ++ (distances xs ∷ []))) ws
+    record { conditions = (1, eqb (length xs) 0) ∷ (2, ltb 256 (length xs)) ∷ (5, isBroken (readSet ws)) ∷ (6, leb 64 (length ps) || ltb 4096 n) ∷ (10, ltb (length ws) (4 + length ps + n)) ∷ []; counts = (length ps + 1, n); result = setWords (ps ++ (distances xs ∷ [])) }

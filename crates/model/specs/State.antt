@@ -1,6 +1,5 @@
 -- The state of a stream search: what it means, when it is accepted, and how a value is pushed. Document 01: A search state; refusal 8.
-use Rattle.lists.specs.Prelude.{Bool, true, cond, _&&_, List, [], _∷_, ℕ, zero, suc, _+_, _-_, _%_, eqb, leb, ltb, ℤ, pos, leZ, length, getD, set}
-use Rattle.lists.specs.Lists.{tabulate, lastBelow, all}
+use Rattle.lists.specs.Prelude.{Bool, true, cond, _&&_, List, [], _∷_, ℕ, zero, suc, _+_, _-_, _%_, eqb, leb, ltb, ℤ, pos, leZ, length, getD, set, tabulate, lastBelow, all}
 use Rattle.answers.specs.declared.SearchState.{SearchState}
 use Rattle.pattern_set.specs.PatternSet.{PatternSet}
 use Rattle.model.specs.Nodes.{nodes, headOf}
@@ -51,14 +50,7 @@ goodState ps st =
 unfoldable pub aged : SearchState → SearchState
 aged st =
     let old = ltb 0 (st .minima) && leb (placeAt st 0 + 256) (st .taken) in
-    record {
-      taken = st .taken;
-      node = st .node;
-      minima = cond old (st .minima - 1) (st .minima);
-      first = cond old ((st .first + 1) % 256) (st .first);
-      places = st .places;
-      values = st .values;
-    }
+    record { taken = st .taken; node = st .node; minima = cond old (st .minima - 1) (st .minima); first = cond old ((st .first + 1) % 256) (st .first); places = st .places; values = st .values }
 
 -- how many open minima are not above the value: the others are closed
 unfoldable pub kept : SearchState → ℤ → ℕ
@@ -78,11 +70,4 @@ unfoldable pub pushed : SearchState → ℤ → ℕ → SearchState
 pushed st x node =
     let a = aged st in
     let n = kept a x in
-    record {
-      taken = st .taken + 1;
-      node = node;
-      minima = n + 1;
-      first = a .first;
-      places = set (st .places) (slot a n) (st .taken);
-      values = set (st .values) (slot a n) x;
-    }
+    record { taken = st .taken + 1; node = node; minima = n + 1; first = a .first; places = set (st .places) (slot a n) (st .taken); values = set (st .values) (slot a n) x }

@@ -1,6 +1,5 @@
 -- One step and one call of the stream search, from any accepted state. Document 01: Step; A ladder search.
-use Rattle.lists.specs.Prelude.{cond, List, [], _∷_, _++_, map, flatten, ℕ, zero, suc, _+_, _*_, _-_, ltb, ℤ, length, getD}
-use Rattle.lists.specs.Lists.{tabulate, select, same}
+use Rattle.lists.specs.Prelude.{cond, List, [], _∷_, _++_, map, flatten, ℕ, zero, suc, _+_, _*_, _-_, ltb, ℤ, length, getD, tabulate, select, same}
 use Rattle.answers.specs.declared.SearchState.{SearchState}
 use Rattle.cartesian.specs.Distances.{cut}
 use Rattle.pattern_set.specs.PatternSet.{PatternSet}

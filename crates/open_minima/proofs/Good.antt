@@ -9,7 +9,7 @@ use lib.Dec.{T, leb, ltb, eqb, leb→le, le→leb, ltb→lt, lt→ltb, eqb→eq,
 use lib.IntN.{ℤ, pos}
 use lib.Signed.{leZ}
 use lib.ListN.{length, getD}
-use Rattle.lists.specs.Lists.{tabulate, all}
+use Rattle.lists.specs.Prelude.{tabulate, all}
 use Rattle.lists.proofs.Lists.{and-split, and-join, length-tabulate, getD-tabulate}
 use Rattle.lists.proofs.Order.{T-true, true-T}
 use Rattle.answers.specs.declared.SearchState.{SearchState}

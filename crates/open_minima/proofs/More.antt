@@ -6,7 +6,7 @@ use Prim.Native.Nat.{ℕ, zero, suc, _+_, _≤_, _<_}
 use native.Mathlib.Omega.{arith}
 use lib.Dec.{T}
 use lib.ListN.{length, getD}
-use Rattle.lists.specs.Lists.{all}
+use Rattle.lists.specs.Prelude.{all}
 use Rattle.lists.proofs.Lists.{and-split, and-join}
 
 pub all-at : {A : Type 0} (test : A → Bool) (d : A) (l : List A) → T (all test l) → (i : ℕ) → i < length l → T (test (getD l i d))

@@ -1,6 +1,5 @@
 -- The ring of open minima in the parts that a caller lends, and what a push leaves in them.
-use Rattle.lists.specs.Prelude.{_≡_, Bool, true, _&&_, List, ℕ, zero, suc, _+_, _%_, leb, ltb, ℤ, pos, leZ, getD}
-use Rattle.lists.specs.Lists.{lastBelow}
+use Rattle.lists.specs.Prelude.{_≡_, Bool, true, _&&_, List, ℕ, zero, suc, _+_, _%_, leb, ltb, ℤ, pos, leZ, getD, lastBelow}
 use Rattle.answers.specs.declared.SearchState.{SearchState}
 use Rattle.model.specs.State.{distanceOf, pushed}
 use Rattle.open_minima.specs.declared.Pushed.{Pushed}

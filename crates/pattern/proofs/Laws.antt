@@ -20,30 +20,33 @@ use Rattle.ranking.specs.Rank.{factorial, unrank, isRank}
 use Rattle.ranking.proofs.Rank.{length-unrank}
 use Rattle.answers.specs.declared.Refusal.{Refusal}
 use Rattle.answers.specs.Told.{number}
-use Rattle.model.specs.Refusals.{tell, leave}
-use Rattle.model.specs.PatternEntries.{distancesRefusal, listRefusal, encodeRefusal, decodeRefusal}
-use Rattle.model.proofs.Refusals.{first-unmet, tell-refused, leave-refused}
+use Rattle.model.specs.Refusals.{Entry, firstMet, unless, told, after}
+use Rattle.model.specs.PatternEntries.{distancesEntry, listConditions, encodeEntry, decodeEntry}
+use Rattle.model.proofs.Refusals.{first-unmet, unless-refused}
 use Rattle.pattern.specs.declared.Checked.{Checked}
 use Rattle.pattern.specs.Checked.{toldChecked}
 
 -- ---- what the number decides
 
 -- a refused call tells the number and no count, and leaves the array as it was
-pub tells-refused : (r : Refusal) (k n : ℕ) → k ≡ number r → _≡_ {A = ℕ × ℕ} (number r, 0) (tell k n)
-tells-refused r k n e = sym (ap (λ (j : ℕ). tell j n) e ∙ tell-refused r n)
+pub tells-refused : {A : Type 0} (r : Refusal) (e : Entry ℕ A) → firstMet (e .conditions) ≡ number r → _≡_ {A = ℕ × ℕ} (number r, 0) (told 0 e)
+tells-refused r e h = sym (ap (λ (k : ℕ). (k, unless k (e .counts) 0)) h ∙ ap (λ (m : ℕ). (number r, m)) (unless-refused r (e .counts) 0))
 
-pub refused : {A : Type 0} (r : Refusal) (k n : ℕ) (result array : List A) → k ≡ number r → (_≡_ {A = ℕ × ℕ} (number r, 0) (tell k n)) × (array ≡ leave k result array)
-refused r k n result array e = (tells-refused r k n e, sym (ap (λ (j : ℕ). leave j result array) e ∙ leave-refused r result array))
+pub refused : {A : Type 0} (r : Refusal) (e : Entry ℕ A) (array : List A) → firstMet (e .conditions) ≡ number r
+    → (_≡_ {A = ℕ × ℕ} (number r, 0) (told 0 e)) × (array ≡ after e array)
+refused r e array h =
+    let done = e .result ++ drop (length (e .result)) array in
+    (tells-refused r e h, sym (ap (λ (k : ℕ). unless k done array) h ∙ unless-refused r done array))
 
 -- a call that is not refused tells the count, and leaves the result at the front of the array
-pub tells : (k n m : ℕ) → k ≡ 0 → m ≡ n → _≡_ {A = ℕ × ℕ} (0, m) (tell k n)
-tells k n m e h = ap (λ (j : ℕ). (0, j)) h ∙ sym (ap (λ (j : ℕ). tell j n) e)
+pub tells : {A : Type 0} (e : Entry ℕ A) (m : ℕ) → firstMet (e .conditions) ≡ 0 → m ≡ e .counts → _≡_ {A = ℕ × ℕ} (0, m) (told 0 e)
+tells e m h q = ap (λ (j : ℕ). (0, j)) q ∙ sym (ap (λ (k : ℕ). (k, unless k (e .counts) 0)) h)
 
-pub written : {A : Type 0} (k n : ℕ) (result array after : List A) → k ≡ 0 → length result ≡ n → after ≡ result ++ drop n array
-    → (_≡_ {A = ℕ × ℕ} (0, n) (tell k n)) × (after ≡ leave k result array)
-written k n result array after e l h = (
-  tells k n n e refl,
-  h ∙ ap (λ (j : ℕ). result ++ drop j array) (sym l) ∙ sym (ap (λ (j : ℕ). leave j result array) e),
+pub written : {A : Type 0} (e : Entry ℕ A) (array left : List A) → firstMet (e .conditions) ≡ 0 → length (e .result) ≡ e .counts → left ≡ e .result ++ drop (e .counts) array
+    → (_≡_ {A = ℕ × ℕ} (0, e .counts) (told 0 e)) × (left ≡ after e array)
+written e array left h l q = (
+  tells e (e .counts) h refl,
+  q ∙ ap (λ (j : ℕ). e .result ++ drop j array) (sym l) ∙ sym (ap (λ (k : ℕ). unless k (e .result ++ drop (length (e .result)) array) array) h),
 )
 
 -- the number that a check found
@@ -56,38 +59,38 @@ checked-good checked k h e = sym h ∙ ap toldChecked e
 -- ---- distances of values
 
 module _ (xs : List ℤ) (out : List ℕ) where
-  pub distances-empty : length xs ≡ 0 → distancesRefusal xs out ≡ 1
+  pub distances-empty : length xs ≡ 0 → firstMet (distancesEntry xs out .conditions) ≡ 1
   distances-empty e = simp (eq-eqb (length xs) 0 e)
 
-  pub distances-too-long : (length xs ≡ 0 → ⊥) → 256 < length xs → distancesRefusal xs out ≡ 2
+  pub distances-too-long : (length xs ≡ 0 → ⊥) → 256 < length xs → firstMet (distancesEntry xs out .conditions) ≡ 2
   distances-too-long e l = simp (ne-eqb (length xs) 0 e, lt-ltb 256 (length xs) l)
 
-  pub distances-array-too-short : (length xs ≡ 0 → ⊥) → length xs ≤ 256 → length out < length xs → distancesRefusal xs out ≡ 10
+  pub distances-array-too-short : (length xs ≡ 0 → ⊥) → length xs ≤ 256 → length out < length xs → firstMet (distancesEntry xs out .conditions) ≡ 10
   distances-array-too-short e l a = simp (ne-eqb (length xs) 0 e, le-ltb 256 (length xs) l, lt-ltb (length out) (length xs) a)
 
-  pub distances-good : (length xs ≡ 0 → ⊥) → length xs ≤ 256 → length xs ≤ length out → distancesRefusal xs out ≡ 0
+  pub distances-good : (length xs ≡ 0 → ⊥) → length xs ≤ 256 → length xs ≤ length out → firstMet (distancesEntry xs out .conditions) ≡ 0
   distances-good e l a = simp (ne-eqb (length xs) 0 e, le-ltb 256 (length xs) l, le-ltb (length out) (length xs) a)
 
 -- ---- a list of distances, into an array of the given room
 
 module _ (ds : List ℕ) (room : ℕ) where
-  pub list-empty : length ds ≡ 0 → listRefusal ds room ≡ 1
+  pub list-empty : length ds ≡ 0 → firstMet (listConditions ds room) ≡ 1
   list-empty e = simp (eq-eqb (length ds) 0 e)
 
-  pub list-too-long : (length ds ≡ 0 → ⊥) → 256 < length ds → listRefusal ds room ≡ 2
+  pub list-too-long : (length ds ≡ 0 → ⊥) → 256 < length ds → firstMet (listConditions ds room) ≡ 2
   list-too-long e l = simp (ne-eqb (length ds) 0 e, lt-ltb 256 (length ds) l)
 
-  pub list-not-realizable : (length ds ≡ 0 → ⊥) → length ds ≤ 256 → realizable ds ≡ false → listRefusal ds room ≡ 4
+  pub list-not-realizable : (length ds ≡ 0 → ⊥) → length ds ≤ 256 → realizable ds ≡ false → firstMet (listConditions ds room) ≡ 4
   list-not-realizable e l r = simp (ne-eqb (length ds) 0 e, le-ltb 256 (length ds) l, r)
 
-  pub list-array-too-short : (length ds ≡ 0 → ⊥) → length ds ≤ 256 → realizable ds ≡ true → room < length ds → listRefusal ds room ≡ 10
+  pub list-array-too-short : (length ds ≡ 0 → ⊥) → length ds ≤ 256 → realizable ds ≡ true → room < length ds → firstMet (listConditions ds room) ≡ 10
   list-array-too-short e l r a = simp (ne-eqb (length ds) 0 e, le-ltb 256 (length ds) l, r, lt-ltb room (length ds) a)
 
-  pub list-good : (length ds ≡ 0 → ⊥) → length ds ≤ 256 → realizable ds ≡ true → length ds ≤ room → listRefusal ds room ≡ 0
+  pub list-good : (length ds ≡ 0 → ⊥) → length ds ≤ 256 → realizable ds ≡ true → length ds ≤ room → firstMet (listConditions ds room) ≡ 0
   list-good e l r a = simp (ne-eqb (length ds) 0 e, le-ltb 256 (length ds) l, r, le-ltb room (length ds) a)
 
   -- what a call that is not refused knows
-  pub list-unmet : listRefusal ds room ≡ 0 → (realizable ds ≡ true) × ((length ds ≤ 256) × (length ds ≤ room))
+  pub list-unmet : firstMet (listConditions ds room) ≡ 0 → (realizable ds ≡ true) × ((length ds ≤ 256) × (length ds ≤ room))
   list-unmet e =
       let fourth : List (ℕ × Bool) = (10, ltb room (length ds)) ∷ [] in
       let third : List (ℕ × Bool) = (4, not (realizable ds)) ∷ fourth in
@@ -101,38 +104,38 @@ module _ (ds : List ℕ) (room : ℕ) where
 -- ---- code of a list of distances
 
 module _ (ds : List ℕ) where
-  pub encode-empty : length ds ≡ 0 → encodeRefusal ds ≡ 1
+  pub encode-empty : length ds ≡ 0 → firstMet (encodeEntry ds .conditions) ≡ 1
   encode-empty e = simp (eq-eqb (length ds) 0 e)
 
-  pub encode-too-long : (length ds ≡ 0 → ⊥) → 256 < length ds → encodeRefusal ds ≡ 2
+  pub encode-too-long : (length ds ≡ 0 → ⊥) → 256 < length ds → firstMet (encodeEntry ds .conditions) ≡ 2
   encode-too-long e l = simp (ne-eqb (length ds) 0 e, lt-ltb 256 (length ds) l)
 
-  pub encode-code-too-long : (length ds ≡ 0 → ⊥) → length ds ≤ 256 → 20 < length ds → encodeRefusal ds ≡ 3
+  pub encode-code-too-long : (length ds ≡ 0 → ⊥) → length ds ≤ 256 → 20 < length ds → firstMet (encodeEntry ds .conditions) ≡ 3
   encode-code-too-long e l k = simp (ne-eqb (length ds) 0 e, le-ltb 256 (length ds) l, lt-ltb 20 (length ds) k)
 
-  pub encode-not-realizable : (length ds ≡ 0 → ⊥) → length ds ≤ 256 → length ds ≤ 20 → realizable ds ≡ false → encodeRefusal ds ≡ 4
+  pub encode-not-realizable : (length ds ≡ 0 → ⊥) → length ds ≤ 256 → length ds ≤ 20 → realizable ds ≡ false → firstMet (encodeEntry ds .conditions) ≡ 4
   encode-not-realizable e l k r = simp (ne-eqb (length ds) 0 e, le-ltb 256 (length ds) l, le-ltb 20 (length ds) k, r)
 
-  pub encode-good : (length ds ≡ 0 → ⊥) → length ds ≤ 256 → length ds ≤ 20 → realizable ds ≡ true → encodeRefusal ds ≡ 0
+  pub encode-good : (length ds ≡ 0 → ⊥) → length ds ≤ 256 → length ds ≤ 20 → realizable ds ≡ true → firstMet (encodeEntry ds .conditions) ≡ 0
   encode-good e l k r = simp (ne-eqb (length ds) 0 e, le-ltb 256 (length ds) l, le-ltb 20 (length ds) k, r)
 
 -- ---- distances of a length and a code
 
-module _ (n code room : ℕ) where
-  pub decode-empty : n ≡ 0 → decodeRefusal n code room ≡ 1
+module _ (n code : ℕ) (out : List ℕ) where
+  pub decode-empty : n ≡ 0 → firstMet (decodeEntry n code out .conditions) ≡ 1
   decode-empty e = simp (eq-eqb n 0 e)
 
-  pub decode-code-too-long : (n ≡ 0 → ⊥) → 20 < n → decodeRefusal n code room ≡ 3
+  pub decode-code-too-long : (n ≡ 0 → ⊥) → 20 < n → firstMet (decodeEntry n code out .conditions) ≡ 3
   decode-code-too-long e k = simp (ne-eqb n 0 e, lt-ltb 20 n k)
 
-  pub decode-not-realizable : (n ≡ 0 → ⊥) → n ≤ 20 → isRank n code ≡ false → decodeRefusal n code room ≡ 4
+  pub decode-not-realizable : (n ≡ 0 → ⊥) → n ≤ 20 → isRank n code ≡ false → firstMet (decodeEntry n code out .conditions) ≡ 4
   decode-not-realizable e k r = simp (ne-eqb n 0 e, le-ltb 20 n k, r)
 
-  pub decode-array-too-short : (n ≡ 0 → ⊥) → n ≤ 20 → isRank n code ≡ true → room < n → decodeRefusal n code room ≡ 10
-  decode-array-too-short e k r a = simp (ne-eqb n 0 e, le-ltb 20 n k, r, lt-ltb room n a)
+  pub decode-array-too-short : (n ≡ 0 → ⊥) → n ≤ 20 → isRank n code ≡ true → length out < n → firstMet (decodeEntry n code out .conditions) ≡ 10
+  decode-array-too-short e k r a = simp (ne-eqb n 0 e, le-ltb 20 n k, r, lt-ltb (length out) n a)
 
-  pub decode-good : (n ≡ 0 → ⊥) → n ≤ 20 → isRank n code ≡ true → n ≤ room → decodeRefusal n code room ≡ 0
-  decode-good e k r a = simp (ne-eqb n 0 e, le-ltb 20 n k, r, le-ltb room n a)
+  pub decode-good : (n ≡ 0 → ⊥) → n ≤ 20 → isRank n code ≡ true → n ≤ length out → firstMet (decodeEntry n code out .conditions) ≡ 0
+  decode-good e k r a = simp (ne-eqb n 0 e, le-ltb 20 n k, r, le-ltb (length out) n a)
 
 -- ---- whether a code is a rank
 

@@ -1,10 +1,13 @@
 // The entries on one pattern: each tells what it refuses by number, and else writes its result to the front of the lent array.
 ghost use mathlib.Core.Path.{_≡_};
 ghost use Prim.Native.Nat.{_≤_};
-ghost use lib.ListN.{length};
 ghost use Rattle.answers.specs.Told.{toldWritten, toldEncoded};
-ghost use Rattle.model.specs.PatternEntries.{distancesTold, distancesAfter, listRefusal, listTold, leastRealizationAfter, globalParentsAfter, failureLengthsAfter, encodeTold, decodeTold, decodeAfter};
+ghost use Rattle.global_parents.specs.GlobalParents.{globalParents};
+ghost use Rattle.model.specs.Refusals.{firstMet, told, after};
+ghost use Rattle.model.specs.PatternEntries.{distancesEntry, listConditions, listEntry, encodeEntry, decodeEntry};
 ghost use Rattle.ranking.specs.Rank.{isRank};
+ghost use Rattle.realization.specs.LeastRealization.{leastRealization};
+ghost use Rattle.realization.specs.FailureLength.{failureLengths};
 ghost use Rattle.pattern.specs.Checked.{toldChecked};
 use answers::Encoded;
 use answers::Refusal;
@@ -18,8 +21,8 @@ pub enum Checked {
 
 // Writes the parent distances of the values.
 pub fn distances(values: &[i32], out: &mut [u32]) -> Written
-    ensures { λ r. ⌜ toldWritten r ≡ distancesTold (now (values .entry)) (now (out .entry)) ⌝ }
-    ensures { λ _. ⌜ now (out .exit) ≡ distancesAfter (now (values .entry)) (now (out .entry)) ⌝ }
+    ensures { λ r. ⌜ toldWritten r ≡ told 0 (distancesEntry (now (values .entry)) (now (out .entry))) ⌝ }
+    ensures { λ _. ⌜ now (out .exit) ≡ after (distancesEntry (now (values .entry)) (now (out .entry))) (now (out .entry)) ⌝ }
 {
     if values.len() == 0 {
         return Written::Refused(Refusal::Empty);
@@ -36,7 +39,7 @@ pub fn distances(values: &[i32], out: &mut [u32]) -> Written
 
 // The first condition met of those that concern a list of distances whose result goes into an array of the given room.
 pub fn check_list(ds: &[u32], room: usize) -> Checked
-    ensures { λ r. ⌜ toldChecked r ≡ listRefusal (now (ds .entry)) room ⌝ }
+    ensures { λ r. ⌜ toldChecked r ≡ firstMet (listConditions (now (ds .entry)) room) ⌝ }
 {
     if ds.len() == 0 {
         return Checked::Refused(Refusal::Empty);
@@ -55,8 +58,8 @@ pub fn check_list(ds: &[u32], room: usize) -> Checked
 
 // Writes the least values that have the distances.
 pub fn least_realization(ds: &[u32], out: &mut [i32]) -> Written
-    ensures { λ r. ⌜ toldWritten r ≡ listTold (now (ds .entry)) (length (now (out .entry))) ⌝ }
-    ensures { λ _. ⌜ now (out .exit) ≡ leastRealizationAfter (now (ds .entry)) (now (out .entry)) ⌝ }
+    ensures { λ r. ⌜ toldWritten r ≡ told 0 (listEntry leastRealization (now (ds .entry)) (now (out .entry))) ⌝ }
+    ensures { λ _. ⌜ now (out .exit) ≡ after (listEntry leastRealization (now (ds .entry)) (now (out .entry))) (now (out .entry)) ⌝ }
 {
     let values = ds.len();
     let checked = check_list(ds, out.len());
@@ -71,8 +74,8 @@ pub fn least_realization(ds: &[u32], out: &mut [i32]) -> Written
 
 // Writes the global parents of the places.
 pub fn global_parents(ds: &[u32], out: &mut [u32]) -> Written
-    ensures { λ r. ⌜ toldWritten r ≡ listTold (now (ds .entry)) (length (now (out .entry))) ⌝ }
-    ensures { λ _. ⌜ now (out .exit) ≡ globalParentsAfter (now (ds .entry)) (now (out .entry)) ⌝ }
+    ensures { λ r. ⌜ toldWritten r ≡ told 0 (listEntry globalParents (now (ds .entry)) (now (out .entry))) ⌝ }
+    ensures { λ _. ⌜ now (out .exit) ≡ after (listEntry globalParents (now (ds .entry)) (now (out .entry))) (now (out .entry)) ⌝ }
 {
     let parents = ds.len();
     let checked = check_list(ds, out.len());
@@ -87,8 +90,8 @@ pub fn global_parents(ds: &[u32], out: &mut [u32]) -> Written
 
 // Writes the failure lengths of the heads of the distances.
 pub fn failure_lengths(ds: &[u32], out: &mut [u32]) -> Written
-    ensures { λ r. ⌜ toldWritten r ≡ listTold (now (ds .entry)) (length (now (out .entry))) ⌝ }
-    ensures { λ _. ⌜ now (out .exit) ≡ failureLengthsAfter (now (ds .entry)) (now (out .entry)) ⌝ }
+    ensures { λ r. ⌜ toldWritten r ≡ told 0 (listEntry failureLengths (now (ds .entry)) (now (out .entry))) ⌝ }
+    ensures { λ _. ⌜ now (out .exit) ≡ after (listEntry failureLengths (now (ds .entry)) (now (out .entry))) (now (out .entry)) ⌝ }
 {
     let lengths = ds.len();
     let checked = check_list(ds, out.len());
@@ -103,7 +106,7 @@ pub fn failure_lengths(ds: &[u32], out: &mut [u32]) -> Written
 
 // The code of a list of distances.
 pub fn encode(ds: &[u32]) -> Encoded
-    ensures { λ r. ⌜ toldEncoded r ≡ encodeTold (now (ds .entry)) ⌝ }
+    ensures { λ r. ⌜ toldEncoded r ≡ told 0 (encodeEntry (now (ds .entry))) ⌝ }
 {
     let places = ds.len();
     if places == 0 {
@@ -137,8 +140,8 @@ fn is_rank(n: usize, code: u64) -> bool
 
 // Writes the n distances that have the code.
 pub fn decode(n: usize, code: u64, out: &mut [u32]) -> Written
-    ensures { λ r. ⌜ toldWritten r ≡ decodeTold n code (length (now (out .entry))) ⌝ }
-    ensures { λ _. ⌜ now (out .exit) ≡ decodeAfter n code (now (out .entry)) ⌝ }
+    ensures { λ r. ⌜ toldWritten r ≡ told 0 (decodeEntry n code (now (out .entry))) ⌝ }
+    ensures { λ _. ⌜ now (out .exit) ≡ after (decodeEntry n code (now (out .entry))) (now (out .entry)) ⌝ }
 {
     if n == 0 {
         return Written::Refused(Refusal::Empty);

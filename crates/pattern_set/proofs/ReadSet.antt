@@ -7,7 +7,7 @@ use mathlib.Core.Option.{none, some, Option·some-injective}
 use Prim.Native.Nat.{ℕ}
 use native.Mathlib.Omega.{arith}
 use lib.Dec.{T}
-use Rattle.lists.specs.Lists.{begins}
+use Rattle.lists.specs.Prelude.{begins}
 use Rattle.lists.proofs.Lists.{and-split, and-join, begins-iff}
 use Rattle.lists.proofs.Order.{T-true, true-T}
 use Rattle.pattern_set.specs.PatternSet.{PatternSet, setWords, goodSet, patternsIn, readSet}

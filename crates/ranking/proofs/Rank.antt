@@ -7,7 +7,7 @@ use native.Mathlib.Nat.{add-zero, zero-add, mod-lt, mod-one, mod-eq-of-lt}
 use native.Mathlib.Omega.{arith}
 use lib.ListN.{length, getD}
 use lib.Seq.{ext-getD}
-use Rattle.lists.specs.Lists.{tabulate}
+use Rattle.lists.specs.Prelude.{tabulate}
 use Rattle.lists.proofs.Lists.{length-tabulate, getD-tabulate}
 use Rattle.cartesian.specs.Tree.{tree}
 use Rattle.cartesian.proofs.HasTree.{tree-has}

@@ -12,7 +12,7 @@ use lib.Dec.{T, eqb, leb, eqb→eq, eqb-refl}
 use lib.IntN.{ℤ, pos}
 use lib.ListN.{length, length-append}
 use Rattle.lists.proofs.Select.{select-append}
-use Rattle.lists.specs.Lists.{any, select}
+use Rattle.lists.specs.Prelude.{any, select}
 use Rattle.lists.proofs.Lists.{and-split, and-join, or-cases, or-left, or-right}
 use Rattle.cartesian.specs.Tree.{Tree, leaf, node, size, tree}
 use Rattle.cartesian.specs.Distances.{distances}

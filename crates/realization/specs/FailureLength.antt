@@ -1,6 +1,5 @@
 -- The failure function of a pattern. Document 01: Fall length.
-use Rattle.lists.specs.Prelude.{List, ℕ, suc, pred, length, take}
-use Rattle.lists.specs.Lists.{tabulate, lastBelow, lastOf}
+use Rattle.lists.specs.Prelude.{List, ℕ, suc, pred, length, take, tabulate, lastBelow, lastOf}
 use Rattle.cartesian.specs.Tree.{tree, sameTree}
 use Rattle.realization.specs.LeastRealization.{leastRealization}
 

@@ -1,6 +1,5 @@
 -- Lists of parent distances that some values have. Document 01: Possible lists.
-use Rattle.lists.specs.Prelude.{_≡_, Bool, true, _&&_, List, [], _∷_, map, ℕ, zero, suc, ℤ, eqb, leb}
-use Rattle.lists.specs.Lists.{any, select}
+use Rattle.lists.specs.Prelude.{_≡_, Bool, true, _&&_, List, [], _∷_, map, ℕ, zero, suc, ℤ, eqb, leb, any, select}
 use Rattle.cartesian.specs.Distances.{distances}
 
 -- some values have it

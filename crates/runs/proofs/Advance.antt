@@ -10,7 +10,7 @@ use native.Mathlib.Decide.{decLt}
 use lib.Dec.{T, leb, leb→le, le→leb}
 use lib.IntN.{ℤ}
 use lib.ListN.{length}
-use Rattle.lists.specs.Lists.{tabulate, select, lastBelow, lastOf}
+use Rattle.lists.specs.Prelude.{tabulate, select, lastBelow, lastOf}
 use Rattle.lists.proofs.Lists.{and-split, and-join, length-lastOf, lastBelow-le, lastBelow-passes, lastBelow-none, lastOf-snoc}
 use Rattle.lists.proofs.Order.{T-true, true-T}
 use Rattle.cartesian.specs.Distances.{distanceAt, distances, cut}
@@ -19,8 +19,7 @@ use Rattle.pattern_set.specs.PatternSet.{PatternSet, goodSet}
 use Rattle.matching.specs.Heads.{isHead, headTree, failure}
 use Rattle.matching.proofs.Heads.{headTree-isHead, failure-next}
 use Rattle.model.specs.Step.{extended, advanceWithin, advance}
-use Rattle.model.specs.ReferenceRun.{longestExtended, attempts}
-use Rattle.model.specs.Observed.{longestHead}
+use Rattle.runs.specs.ReferenceRun.{longestExtended, attempts, longestHead}
 use Rattle.runs.proofs.More.{count, count-yes, count-gap}
 use Rattle.runs.proofs.Suffixes.{good-realizable, empty-suffix, extended-is}
 use Rattle.runs.proofs.LongestHead.{headSuffix, extendedSuffix, longestHead-le, longestHead-head, longestHead-none, longestExtended-le, longestExtended-short, longestExtended-passes, longestExtended-none}

@@ -7,8 +7,7 @@ use lib.IntN.{ℤ}
 use lib.ListN.{length}
 use Rattle.lists.proofs.Lists.{and-split}
 use Rattle.pattern_set.specs.PatternSet.{PatternSet, goodSet}
-use Rattle.model.specs.ReferenceRun.{longestExtended, attempts}
-use Rattle.model.specs.Observed.{longestHead}
+use Rattle.runs.specs.ReferenceRun.{longestExtended, attempts, longestHead}
 use Rattle.runs.proofs.More.{count-from}
 use Rattle.runs.proofs.LongestHead.{headSuffix, longestExtended-le, longestHead-step}
 use Rattle.runs.proofs.Advance.{tried, attempts-tried}

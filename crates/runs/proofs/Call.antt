@@ -8,15 +8,14 @@ use lib.Dec.{T, ltb}
 use lib.IntN.{ℤ}
 use lib.ListN.{length, take, length-append}
 use lib.Seq.{take-append-le, take-all}
-use Rattle.lists.specs.Lists.{tabulate}
+use Rattle.lists.specs.Prelude.{tabulate}
 use Rattle.lists.proofs.Lists.{tabulate-ext, length-snoc}
 use Rattle.lists.proofs.Members.{flatten-tabulate}
 use Rattle.answers.specs.declared.SearchState.{SearchState}
 use Rattle.pattern_set.specs.PatternSet.{PatternSet, goodSet}
 use Rattle.matching.specs.Hits.{lastHits, hitsAt, hits}
 use Rattle.model.specs.Step.{Stepped, step, Called, stop, andThen, feed, call}
-use Rattle.model.specs.ReferenceRun.{attempts, append, read}
-use Rattle.model.specs.Observed.{longestHead}
+use Rattle.runs.specs.ReferenceRun.{attempts, append, read, longestHead}
 use Rattle.runs.proofs.Attempts.{attempts-bound}
 use Rattle.runs.proofs.Step.{Represents, step-hits, step-attempts, step-state}
 

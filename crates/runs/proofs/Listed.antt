@@ -12,7 +12,7 @@ use lib.IntN.{ℤ}
 use lib.ListN.{length, getD, take}
 use lib.Seq.{take-all}
 use Rattle.lists.proofs.Select.{getD-mem, tabulate-cons}
-use Rattle.lists.specs.Lists.{tabulate, select, same, lastOf}
+use Rattle.lists.specs.Prelude.{tabulate, select, same, lastOf}
 use Rattle.lists.proofs.Lists.{tabulate-ext, test-ext, same-eq, eq-same, mem-any, lastOf-zero}
 use Rattle.lists.proofs.Order.{T-true}
 use Rattle.cartesian.specs.Distances.{distances}
@@ -23,7 +23,7 @@ use Rattle.matching.specs.Heads.{headTree, headLengths}
 use Rattle.matching.proofs.Heads.{hasTree-iff, chain-is}
 use Rattle.matching.proofs.Sizes.{hasTree-length}
 use Rattle.model.specs.Step.{endingAt, listed}
-use Rattle.model.specs.Observed.{longestHead}
+use Rattle.runs.specs.ReferenceRun.{longestHead}
 use Rattle.runs.proofs.Suffixes.{good-pattern}
 use Rattle.runs.proofs.LongestHead.{longestHead-le, longestHead-head, longestHead-none}
 

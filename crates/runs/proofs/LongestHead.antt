@@ -7,14 +7,13 @@ use native.Mathlib.Omega.{arith}
 use lib.Dec.{T}
 use lib.IntN.{ℤ}
 use lib.ListN.{length, take, length-take}
-use Rattle.lists.specs.Lists.{lastOf}
+use Rattle.lists.specs.Prelude.{lastOf}
 use Rattle.lists.proofs.Lists.{and-split, and-join, any-mem, length-lastOf, lastOf-snoc, length-snoc}
 use Rattle.pattern_set.specs.PatternSet.{PatternSet, goodSet}
 use Rattle.matching.specs.Hits.{hasTree}
 use Rattle.matching.specs.Heads.{headTree}
 use Rattle.matching.proofs.Sizes.{hasTree-length}
-use Rattle.model.specs.ReferenceRun.{longestExtended}
-use Rattle.model.specs.Observed.{longestHead}
+use Rattle.runs.specs.ReferenceRun.{longestExtended, longestHead}
 use Rattle.runs.proofs.More.{greatest-le, greatest-passes, greatest-none, greatest-is, greatest-most}
 use Rattle.runs.proofs.Suffixes.{good-pattern, headTree-shorter, empty-suffix, one-suffix}
 

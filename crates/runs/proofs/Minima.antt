@@ -13,14 +13,14 @@ use lib.Signed.{leZ}
 use lib.ListN.{length, getD, take, length-append, length-replicate, List·getD-append}
 use lib.Seq.{getD-append-seam, take-suc, take-length}
 use Rattle.lists.proofs.Select.{map-tabulate, select-select}
-use Rattle.lists.specs.Lists.{tabulate, all, select}
+use Rattle.lists.specs.Prelude.{tabulate, all, select}
 use Rattle.lists.proofs.Lists.{and-split, and-join, or-cases, or-left, or-right, test-ext, length-tabulate, getD-tabulate}
 use Rattle.lists.proofs.Order.{true-T}
 use Rattle.lists.proofs.Places.{all-below, below-all}
 use Rattle.answers.specs.declared.SearchState.{SearchState}
 use Rattle.answers.specs.NewSearch.{newSearch}
 use Rattle.model.specs.State.{placeAt, valueAt, rising, neverFalling, afterLast, goodMinima}
-use Rattle.model.specs.Observed.{isOpen, openPlaces}
+use Rattle.runs.specs.ReferenceRun.{isOpen, openPlaces}
 use Rattle.runs.proofs.MoreMinima.{tabulate-at, all-tabulate, select-snoc, select-ext, Selected, selected}
 
 pub record Minima (text : List ℤ) (st : SearchState) : Type 0 where

@@ -9,7 +9,7 @@ use lib.Dec.{T}
 use lib.ListN.{length, getD, drop, length-append, drop-of-length-le}
 use lib.Seq.{drop-append-le}
 use Rattle.lists.proofs.Select.{select-append}
-use Rattle.lists.specs.Lists.{tabulate, lastBelow, lastOf, select}
+use Rattle.lists.specs.Prelude.{tabulate, lastBelow, lastOf, select}
 use Rattle.lists.proofs.Lists.{lastBelow-le, lastBelow-passes, lastBelow-none, lastBelow-is}
 use Rattle.lists.proofs.Order.{true-T}
 

@@ -10,7 +10,7 @@ use lib.Dec.{T}
 use lib.ListN.{length, getD, length-append, List·getD-append}
 use lib.Seq.{getD-append-seam}
 use Rattle.lists.proofs.Select.{select-append}
-use Rattle.lists.specs.Lists.{tabulate, lastBelow, all, select}
+use Rattle.lists.specs.Prelude.{tabulate, lastBelow, all, select}
 use Rattle.lists.proofs.Lists.{and-split, and-join, length-tabulate, getD-tabulate}
 use Rattle.lists.proofs.Order.{T-true, true-T}
 use Rattle.lists.proofs.Members.{map-append}

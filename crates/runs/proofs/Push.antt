@@ -13,13 +13,13 @@ use lib.Signed.{leZ, leZ-yes, _≤ℤ_, _<ℤ_}
 use lib.ListN.{length, set, length-set}
 use lib.Seq.{getD-set-same, getD-set-other}
 use Rattle.lists.proofs.Select.{map-tabulate}
-use Rattle.lists.specs.Lists.{tabulate, lastBelow, select}
+use Rattle.lists.specs.Prelude.{tabulate, lastBelow, select}
 use Rattle.lists.proofs.Lists.{and-split, and-join, tabulate-ext, lastBelow-le, lastBelow-passes, lastBelow-none, lastBelow-is, lastBelow-zero, lastBelow-ext}
 use Rattle.lists.proofs.Order.{≤ℤ-trans, ≤ℤ-total, <ℤ-≤ℤ}
 use Rattle.cartesian.specs.Distances.{seek, gap, distanceAt, cut}
 use Rattle.answers.specs.declared.SearchState.{SearchState}
 use Rattle.model.specs.State.{slot, placeAt, valueAt, aged, kept, back, distanceOf, pushed}
-use Rattle.model.specs.Observed.{isOpen, openPlaces}
+use Rattle.runs.specs.ReferenceRun.{isOpen, openPlaces}
 use Rattle.runs.proofs.MoreMinima.{select-front}
 use Rattle.runs.proofs.Minima.{Minima, valueOf, open-from, valueOf-before, valueOf-last, length-more, young, openPlaces-more, isListed}
 use Rattle.runs.proofs.Ring.{slot-lt, slots-differ, Aged, minima-aged, aged-selected, aged-rise, aged-count}

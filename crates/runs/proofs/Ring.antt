@@ -12,12 +12,12 @@ use lib.IntN.{ℤ, pos}
 use lib.Signed.{leZ}
 use lib.ListN.{length, getD}
 use Rattle.lists.proofs.Select.{tabulate-cons, select-select}
-use Rattle.lists.specs.Lists.{tabulate, select}
+use Rattle.lists.specs.Prelude.{tabulate, select}
 use Rattle.lists.proofs.Lists.{and-split, and-join, tabulate-ext}
 use Rattle.lists.proofs.Order.{T-true}
 use Rattle.answers.specs.declared.SearchState.{SearchState}
 use Rattle.model.specs.State.{slot, placeAt, valueAt, aged}
-use Rattle.model.specs.Observed.{isOpen, openPlaces}
+use Rattle.runs.specs.ReferenceRun.{isOpen, openPlaces}
 use Rattle.runs.proofs.MoreMinima.{select-all, Selected, selected, rising-count}
 use Rattle.runs.proofs.Minima.{Minima, valueOf, open-later, young, isListed, minima-selected, minima-value}
 

@@ -11,23 +11,22 @@ use lib.Dec.{T, eqb, ltb}
 use lib.IntN.{ℤ, pos}
 use lib.ListN.{length, take, drop}
 use lib.Seq.{take-at}
-use Rattle.lists.specs.Lists.{begins, tabulate}
+use Rattle.lists.specs.Prelude.{begins, tabulate}
 use Rattle.lists.proofs.Order.{true-T, T-true}
 use Rattle.answers.specs.declared.SearchState.{SearchState}
 use Rattle.answers.specs.NewSearch.{newSearch}
 use Rattle.pattern_set.specs.PatternSet.{PatternSet, goodSet, setWords, readSet}
 use Rattle.pattern_set.proofs.ReadSet.{readSet-iff, readSet-words}
 use Rattle.matching.specs.Hits.{hits, hitWords}
-use Rattle.model.specs.Refusals.{firstMet, leave, tellTwo}
+use Rattle.model.specs.Refusals.{firstMet, unless, told, after}
 use Rattle.model.specs.SetEntries.{isBroken, setOf, isUnsearchable}
 use Rattle.model.specs.AutomatonWords.{automatonWords}
 use Rattle.model.specs.State.{goodState}
 use Rattle.model.specs.Step.{Called, call}
-use Rattle.model.specs.SearchEntries.{streamRefusal, streamCall, Told, tellCalled, handBack, candidates, filterTold, filterAfter}
-use Rattle.model.specs.ReferenceRun.{Call, Seen, seenOf, read, isLent, runRefusal, referenceCall, reference, taken}
-use Rattle.model.specs.Observed.{refusalOf, observeCall, nextState, observe, lastState, RefusedUnless, Admitted, longestHead}
-use Rattle.model.proofs.Refusals.{first-unmet}
-use Rattle.runs.specs.RunTheorem.{toldOr0, written, attemptsOf, NeverRefused, Run, RunTheorem}
+use Rattle.model.specs.SearchEntries.{Counts, streamConditions, streamCall, candidates, filterEntry}
+use Rattle.runs.specs.ReferenceRun.{Call, Seen, read, isLent, referenceCall, reference, taken, longestHead}
+use Rattle.model.proofs.Refusals.{leave, first-unmet}
+use Rattle.runs.specs.RunTheorem.{conditionsOf, observeCall, nextState, observe, lastState, Admitted, toldOr0, written, attemptsOf, NeverRefused, Run, RunTheorem}
 use Rattle.runs.proofs.LongestHead.{longestHead-le}
 use Rattle.runs.proofs.Step.{Represents, node-reached, new-represents, represents-good}
 use Rattle.runs.proofs.Call.{Agrees, call-reads}
@@ -53,23 +52,37 @@ no-hits ps = refl
 abbrev calledOf : SearchState → Call → Called SearchState
 calledOf st k = streamCall (k .set) st (k .values) (k .hits)
 
+abbrev refusalOf : SearchState → Call → ℕ
+refusalOf st k = firstMet (conditionsOf st k)
+
+-- the reference's refusal of a call that is lent the set
+abbrev runRefusal : PatternSet → List ℤ → Call → ℕ
+runRefusal ps text k = firstMet ((7, not (begins (k .automaton) (automatonWords ps))) ∷ (9, ltb 1048576 (length text + length (k .values))) ∷ (10, ltb (length (k .hits)) (2 * length ps)) ∷ [])
+
+-- what is told, and what is seen, of a call that is refused with n, or, where n is 0, does this
+abbrev tellCalled : {S : Type 0} → ℕ → Called S → ℕ × Counts
+tellCalled n r = (n, unless n (r .ended, r .taken, length (r .hits), r .attempts) (0, 0, 0, 0))
+
+abbrev seenBy : {S : Type 0} → PatternSet → ℕ → Called S → Call → Seen
+seenBy ps n r k = record { tells = cond (isLent ps k) (some (tellCalled n r)) none; leaves = leave n (hitWords (r .hits)) (k .hits) }
+
 -- what is seen of a call that is lent the set, and of one that is not
 seen-lent : {S : Type 0} (ps : PatternSet) (n : ℕ) (r : Called S) (k : Call) → isLent ps k ≡ true
-    → seenOf ps n r k ≡ record { told = some (tellCalled n r); after = leave n (hitWords (r .hits)) (k .hits) }
+    → seenBy ps n r k ≡ record { tells = some (tellCalled n r); leaves = leave n (hitWords (r .hits)) (k .hits) }
 seen-lent ps n r k e = rw e refl
 
-seen-other : {S : Type 0} (ps : PatternSet) (n : ℕ) (r : Called S) (k : Call) → isLent ps k ≡ false → seenOf ps (suc n) r k ≡ record { told = none; after = k .hits }
+seen-other : {S : Type 0} (ps : PatternSet) (n : ℕ) (r : Called S) (k : Call) → isLent ps k ≡ false → seenBy ps (suc n) r k ≡ record { tells = none; leaves = k .hits }
 seen-other ps n r k e = rw e refl
 
 reference-lent : (ps : PatternSet) (text : List ℤ) (k : Call) (n : ℕ) → isLent ps k ≡ true → runRefusal ps text k ≡ n
-    → referenceCall ps text k ≡ (seenOf ps n (read ps text (length (k .hits)) (k .values)) k, handBack n (read ps text (length (k .hits)) (k .values)) text)
+    → referenceCall ps text k ≡ (seenBy ps n (read ps text (length (k .hits)) (k .values)) k, unless n (read ps text (length (k .hits)) (k .values) .state) text)
 unfolding referenceCall
 reference-lent ps text k n e f =
-    ap (λ (b : Bool). (seenOf ps (cond b (runRefusal ps text k) 1) (read ps text (length (k .hits)) (k .values)) k, handBack (cond b (runRefusal ps text k) 1) (read ps text (length (k .hits)) (k .values)) text)) e
-    ∙ ap (λ (m : ℕ). (seenOf ps m (read ps text (length (k .hits)) (k .values)) k, handBack m (read ps text (length (k .hits)) (k .values)) text)) f
+    ap (λ (b : Bool). (seenBy ps (cond (not b) 1 (runRefusal ps text k)) (read ps text (length (k .hits)) (k .values)) k, unless (cond (not b) 1 (runRefusal ps text k)) (read ps text (length (k .hits)) (k .values) .state) text)) e
+    ∙ ap (λ (m : ℕ). (seenBy ps m (read ps text (length (k .hits)) (k .values)) k, unless m (read ps text (length (k .hits)) (k .values) .state) text)) f
 
 reference-other : (ps : PatternSet) (text : List ℤ) (k : Call) → isLent ps k ≡ false
-    → referenceCall ps text k ≡ (record { told = none; after = k .hits }, text)
+    → referenceCall ps text k ≡ (record { tells = none; leaves = k .hits }, text)
 unfolding referenceCall
 reference-other ps text k e = rw e refl
 
@@ -88,15 +101,15 @@ record OneCall (ps : PatternSet) (text : List ℤ) (st : SearchState) (k : Call)
   state : Represents ps (referenceCall ps text k .1) (nextState st k)
   limit : length (referenceCall ps text k .1) ≤ 1048576
   longer : length text ≤ length (referenceCall ps text k .1)
-  never : toldOr0 (λ t. t .0) (observeCall ps st k .told) ≡ 8 → ⊥
-  bound : toldOr0 (λ t. t .4) (observeCall ps st k .told) + longestHead ps (referenceCall ps text k .1) + 2 * length text ≤ longestHead ps text + 2 * length (referenceCall ps text k .1)
-  list : hitWords (hits ps (referenceCall ps text k .1)) ≡ hitWords (hits ps text) ++ take (2 * toldOr0 (λ t. t .3) (observeCall ps st k .told)) (observeCall ps st k .after)
+  never : toldOr0 (λ t. t .0) (observeCall ps st k .tells) ≡ 8 → ⊥
+  bound : toldOr0 (λ t. t .1 .3) (observeCall ps st k .tells) + longestHead ps (referenceCall ps text k .1) + 2 * length text ≤ longestHead ps text + 2 * length (referenceCall ps text k .1)
+  list : hitWords (hits ps (referenceCall ps text k .1)) ≡ hitWords (hits ps text) ++ take (2 * toldOr0 (λ t. t .1 .2) (observeCall ps st k .tells)) (observeCall ps st k .leaves)
 
 -- one call is told by what is seen of it and by the text after it
 one-by : (ps : PatternSet) (text : List ℤ) (st : SearchState) (k : Call) (s : Seen) (more : List ℤ)
     → observeCall ps st k ≡ s → referenceCall ps text k ≡ (s, more) → Represents ps more (nextState st k) → length more ≤ 1048576 → length text ≤ length more
-    → (toldOr0 (λ t. t .0) (s .told) ≡ 8 → ⊥) → toldOr0 (λ t. t .4) (s .told) + longestHead ps more + 2 * length text ≤ longestHead ps text + 2 * length more
-    → hitWords (hits ps more) ≡ hitWords (hits ps text) ++ take (2 * toldOr0 (λ t. t .3) (s .told)) (s .after) → OneCall ps text st k
+    → (toldOr0 (λ t. t .0) (s .tells) ≡ 8 → ⊥) → toldOr0 (λ t. t .1 .3) (s .tells) + longestHead ps more + 2 * length text ≤ longestHead ps text + 2 * length more
+    → hitWords (hits ps more) ≡ hitWords (hits ps text) ++ take (2 * toldOr0 (λ t. t .1 .2) (s .tells)) (s .leaves) → OneCall ps text st k
 one-by ps text st k s more o q r l m v b w =
     let e : referenceCall ps text k .1 ≡ more = ap (λ (p : Seen × List ℤ). p .1) q in
     record {
@@ -104,9 +117,9 @@ one-by ps text st k s more o q r l m v b w =
       state = subst (λ (t : List ℤ). Represents ps t (nextState st k)) (sym e) r;
       limit = rw e l;
       longer = rw e m;
-      never = λ d. v (ap (λ (t : Seen). toldOr0 (λ t. t .0) (t .told)) (sym o) ∙ d);
-      bound = subst (λ (t : Seen). toldOr0 (λ t. t .4) (t .told) + longestHead ps (referenceCall ps text k .1) + 2 * length text ≤ longestHead ps text + 2 * length (referenceCall ps text k .1)) (sym o) (rw e b);
-      list = subst (λ (t : Seen). hitWords (hits ps (referenceCall ps text k .1)) ≡ hitWords (hits ps text) ++ take (2 * toldOr0 (λ t. t .3) (t .told)) (t .after)) (sym o) (rw e w);
+      never = λ d. v (ap (λ (t : Seen). toldOr0 (λ t. t .0) (t .tells)) (sym o) ∙ d);
+      bound = subst (λ (t : Seen). toldOr0 (λ t. t .1 .3) (t .tells) + longestHead ps (referenceCall ps text k .1) + 2 * length text ≤ longestHead ps text + 2 * length (referenceCall ps text k .1)) (sym o) (rw e b);
+      list = subst (λ (t : Seen). hitWords (hits ps (referenceCall ps text k .1)) ≡ hitWords (hits ps text) ++ take (2 * toldOr0 (λ t. t .1 .2) (t .tells)) (t .leaves)) (sym o) (rw e w);
     }
 
 module _ (ps : PatternSet) (g : T (goodSet ps)) (z : 0 < length ps) where
@@ -115,17 +128,17 @@ module _ (ps : PatternSet) (g : T (goodSet ps)) (z : 0 < length ps) where
 
   -- under the set the refusals are the reference's: 1, 5 and 8 never hold, and 9 is as counted from the text
   refusal-same : (text : List ℤ) (st : SearchState) (k : Call) → Represents ps text st → length text ≤ 1048576 → isLent ps k ≡ true → refusalOf st k ≡ runRefusal ps text k
-  unfolding streamRefusal
+  unfolding streamConditions
   refusal-same text st k r l e =
       rw (read-lent k e, ne-eqb (length ps) 0 (λ q. let w : ⊥ = omega arith in w), true-T (goodState ps st) (represents-good ps g z text st r l), r .minima .count) refl
 
   -- a call lent another set is refused and changes nothing
   one-other : (text : List ℤ) (st : SearchState) (k : Call) (n : ℕ) → Represents ps text st → length text ≤ 1048576 → isLent ps k ≡ false → refusalOf st k ≡ suc n → OneCall ps text st k
   one-other text st k n r l e f =
-      one-by ps text st k (record { told = none; after = k .hits }) text
-      (ap (λ (m : ℕ). seenOf ps m (calledOf st k) k) f ∙ seen-other ps n (calledOf st k) k e)
+      one-by ps text st k (record { tells = none; leaves = k .hits }) text
+      (ap (λ (m : ℕ). seenBy ps m (calledOf st k) k) f ∙ seen-other ps n (calledOf st k) k e)
       (reference-other ps text k e)
-      (subst (Represents ps text) (sym (ap (λ (m : ℕ). handBack m (calledOf st k) st) f)) r)
+      (subst (Represents ps text) (sym (ap (λ (m : ℕ). unless m ((calledOf st k) .state) st) f)) r)
       l (omega arith) (λ d. let w : ⊥ = omega arith in w) (omega arith) (sym (append-nil (hitWords (hits ps text))))
 
   -- a refused call under the set changes nothing
@@ -133,10 +146,10 @@ module _ (ps : PatternSet) (g : T (goodSet ps)) (z : 0 < length ps) where
   one-refused text st k n r l e f =
       let R = read ps text (length (k .hits)) (k .values) in
       let m : refusalOf st k ≡ suc n = refusal-same text st k r l e ∙ f in
-      one-by ps text st k (record { told = some (suc n, 0, 0, 0, 0); after = k .hits }) text
-      (ap (λ (i : ℕ). seenOf ps i (calledOf st k) k) m ∙ seen-lent ps (suc n) (calledOf st k) k e)
+      one-by ps text st k (record { tells = some (suc n, (0, 0, 0, 0)); leaves = k .hits }) text
+      (ap (λ (i : ℕ). seenBy ps i (calledOf st k) k) m ∙ seen-lent ps (suc n) (calledOf st k) k e)
       (reference-lent ps text k (suc n) e f ∙ ap (λ (s : Seen). (s, text)) (seen-lent ps (suc n) R k e))
-      (subst (Represents ps text) (sym (ap (λ (i : ℕ). handBack i (calledOf st k) st) m)) r)
+      (subst (Represents ps text) (sym (ap (λ (i : ℕ). unless i ((calledOf st k) .state) st) m)) r)
       l (omega arith)
       (λ d. not-eight (not (begins (k .automaton) (automatonWords ps))) (ltb 1048576 (length text + length (k .values))) (ltb (length (k .hits)) (2 * length ps)) (f ∙ d))
       (omega arith) (sym (append-nil (hitWords (hits ps text))))
@@ -149,34 +162,34 @@ module _ (ps : PatternSet) (g : T (goodSet ps)) (z : 0 < length ps) where
       let c : calledOf st k ≡ C = ap (λ (o : Option PatternSet). call (setOf o) st (length (k .hits)) (k .values)) (read-lent k e) in
       let n : refusalOf st k ≡ 0 = refusal-same text st k r l e ∙ f in
       let fits = fits-limit (not (begins (k .automaton) (automatonWords ps))) (length text + length (k .values)) (ltb (length (k .hits)) (2 * length ps)) f in
-      one-by ps text st k (record { told = some (0, R .ended, R .taken, length (R .hits), R .attempts); after = hitWords (R .hits) ++ drop (length (hitWords (R .hits))) (k .hits) }) (R .state)
-      (ap (λ (i : ℕ). seenOf ps i (calledOf st k) k) n ∙ ap (λ (d : Called SearchState). seenOf ps 0 d k) c ∙ seen-lent ps 0 C k e ∙ same-seen text (length (k .values)) C R k A)
+      one-by ps text st k (record { tells = some (0, (R .ended, R .taken, length (R .hits), R .attempts)); leaves = hitWords (R .hits) ++ drop (length (hitWords (R .hits))) (k .hits) }) (R .state)
+      (ap (λ (i : ℕ). seenBy ps i (calledOf st k) k) n ∙ ap (λ (d : Called SearchState). seenBy ps 0 d k) c ∙ seen-lent ps 0 C k e ∙ same-seen text (length (k .values)) C R k A)
       (reference-lent ps text k 0 e f ∙ ap (λ (s : Seen). (s, R .state)) (seen-lent ps 0 R k e))
-      (subst (Represents ps (R .state)) (sym (ap (λ (i : ℕ). handBack i (calledOf st k) st) n ∙ ap (λ (d : Called SearchState). d .state) c)) (A .state))
+      (subst (Represents ps (R .state)) (sym (ap (λ (i : ℕ). unless i ((calledOf st k) .state) st) n ∙ ap (λ (d : Called SearchState). d .state) c)) (A .state))
       (omega (arith, A .longer, A .within, fits)) (omega (arith, A .longer)) (λ d. let w : ⊥ = omega arith in w) (omega (arith, A .bound, A .longer))
       (ap hitWords (A .more) ∙ hitWords-append (hits ps text) (R .hits)
       ∙ ap (λ (v : List ℕ). hitWords (hits ps text) ++ v) (sym (take-at (hitWords (R .hits)) (drop (length (hitWords (R .hits))) (k .hits)) (2 * length (R .hits)) (length-hitWords (R .hits)))))
     where
       same-seen : (text : List ℤ) (limit : ℕ) (c : Called SearchState) (r : Called (List ℤ)) (k : Call) → Agrees ps text limit c r
-          → _≡_ {A = Seen} (record { told = some (0, c .ended, c .taken, length (c .hits), c .attempts); after = hitWords (c .hits) ++ drop (length (hitWords (c .hits))) (k .hits) })
-          (record { told = some (0, r .ended, r .taken, length (r .hits), r .attempts); after = hitWords (r .hits) ++ drop (length (hitWords (r .hits))) (k .hits) })
+          → _≡_ {A = Seen} (record { tells = some (0, (c .ended, c .taken, length (c .hits), c .attempts)); leaves = hitWords (c .hits) ++ drop (length (hitWords (c .hits))) (k .hits) })
+          (record { tells = some (0, (r .ended, r .taken, length (r .hits), r .attempts)); leaves = hitWords (r .hits) ++ drop (length (hitWords (r .hits))) (k .hits) })
       same-seen text limit c r k a =
-          λ i. record { told = some (0, a .ended i, a .taken i, length (a .hits i), a .attempts i); after = hitWords (a .hits i) ++ drop (length (hitWords (a .hits i))) (k .hits) }
+          λ i. record { tells = some (0, (a .ended i, a .taken i, length (a .hits i), a .attempts i)); leaves = hitWords (a .hits i) ++ drop (length (hitWords (a .hits i))) (k .hits) }
 
       fits-limit : (a : Bool) (n : ℕ) (b : Bool) → firstMet ((7, a) ∷ (9, ltb 1048576 n) ∷ (10, b) ∷ []) ≡ 0 → n ≤ 1048576
       fits-limit a n b e = ltb-false 1048576 n (first-unmet 8 (ltb 1048576 n) ((10, b) ∷ []) (first-unmet 6 a ((9, ltb 1048576 n) ∷ (10, b) ∷ []) e .1) .0)
 
-  one-call : (text : List ℤ) (st : SearchState) (k : Call) → Represents ps text st → length text ≤ 1048576 → RefusedUnless (isLent ps k) (refusalOf st k) → OneCall ps text st k
+  one-call : (text : List ℤ) (st : SearchState) (k : Call) → Represents ps text st → length text ≤ 1048576 → (isLent ps k ≡ false → 0 < refusalOf st k) → OneCall ps text st k
   one-call text st k r l a = go (isLent ps k) refl a (runRefusal ps text k) refl
     where
       other : (m : ℕ) → refusalOf st k ≡ m → 0 < m → isLent ps k ≡ false → OneCall ps text st k
       other zero q p e = absurd (let w : ⊥ = omega arith in w)
       other (suc m) q p e = one-other text st k m r l e q
 
-      go : (b : Bool) → isLent ps k ≡ b → RefusedUnless b (refusalOf st k) → (n : ℕ) → runRefusal ps text k ≡ n → OneCall ps text st k
+      go : (b : Bool) → isLent ps k ≡ b → (isLent ps k ≡ false → 0 < refusalOf st k) → (n : ℕ) → runRefusal ps text k ≡ n → OneCall ps text st k
       go true e p zero f = one-accepted text st k r l e f
       go true e p (suc n) f = one-refused text st k n r l e f
-      go false e p n f = other (refusalOf st k) refl p e
+      go false e p n f = other (refusalOf st k) refl (p e) e
 
   -- ---- all calls
 
@@ -206,12 +219,12 @@ module _ (ps : PatternSet) (g : T (goodSet ps)) (z : 0 < length ps) where
         list =
             i .list
             ∙ ap (λ (v : List ℕ). v ++ written (observe ps (nextState st k) cs)) (o .list)
-            ∙ append-assoc (hitWords (hits ps text)) (take (2 * toldOr0 (λ t. t .3) (observeCall ps st k .told)) (observeCall ps st k .after)) (written (observe ps (nextState st k) cs));
+            ∙ append-assoc (hitWords (hits ps text)) (take (2 * toldOr0 (λ t. t .1 .2) (observeCall ps st k .tells)) (observeCall ps st k .leaves)) (written (observe ps (nextState st k) cs));
       }
 
   -- the list of a filter search over the same values
   filter-list : (text : List ℤ) → length text ≤ 1048576 → (ws out : List ℕ) → length (hitWords (hits ps text)) ≤ length out
-      → (filterTold (setWords ps ++ ws) text out ≡ (0, length (hits ps text), candidates ps text)) × (filterAfter (setWords ps ++ ws) text out ≡ hitWords (hits ps text) ++ drop (length (hitWords (hits ps text))) out)
+      → (told (0, 0) (filterEntry (setWords ps ++ ws) text out) ≡ (0, (length (hits ps text), candidates ps text))) × (after (filterEntry (setWords ps ++ ws) text out) out ≡ hitWords (hits ps text) ++ drop (length (hitWords (hits ps text))) out)
   filter-list text l ws out f =
       rw (readSet-words ps ws g, ne-eqb (length ps) 0 (λ q. let w : ⊥ = omega arith in w), le-ltb 1048576 (length text) l, le-ltb (length out) (2 * length (hits ps text)) (let w : 2 * length (hits ps text) ≤ length out = omega (arith, length-hitWords (hits ps text)) in w))
       (refl, refl)

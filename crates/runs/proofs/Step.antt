@@ -10,7 +10,7 @@ use lib.Dec.{T, leb, ltb, lt→ltb, le→leb}
 use lib.IntN.{ℤ}
 use lib.ListN.{length, length-append}
 use lib.Seq.{drop-nil}
-use Rattle.lists.specs.Lists.{lastOf, tabulate}
+use Rattle.lists.specs.Prelude.{lastOf, tabulate}
 use Rattle.lists.proofs.Lists.{and-join, length-lastOf}
 use Rattle.lists.proofs.Order.{true-T, T-true}
 use Rattle.answers.specs.declared.SearchState.{SearchState}
@@ -26,8 +26,7 @@ use Rattle.matching.proofs.Heads.{headTree-isHead}
 use Rattle.model.specs.Nodes.{nodes, headOf, nodeOf}
 use Rattle.model.specs.State.{goodMinima, goodState, distanceOf, pushed}
 use Rattle.model.specs.Step.{extended, advanceWithin, advance, listed, Stepped, step}
-use Rattle.model.specs.ReferenceRun.{attempts, longestExtended}
-use Rattle.model.specs.Observed.{longestHead}
+use Rattle.runs.specs.ReferenceRun.{attempts, longestExtended, longestHead}
 use Rattle.model.proofs.Nodes.{head-node, head-length, node-root, failure-shorter}
 use Rattle.runs.proofs.Suffixes.{good-realizable}
 use Rattle.runs.proofs.LongestHead.{longestHead-le, longestHead-head, longestHead-step}

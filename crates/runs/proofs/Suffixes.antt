@@ -8,7 +8,7 @@ use lib.Dec.{T, leb, leb→le}
 use lib.IntN.{ℤ}
 use lib.ListN.{length, take}
 use lib.Seq.{take-suc, take-all, take-append-seam, drop-append-le}
-use Rattle.lists.specs.Lists.{any, all, lastOf}
+use Rattle.lists.specs.Prelude.{any, all, lastOf}
 use Rattle.lists.proofs.Lists.{and-split, all-mem, mem-all, length-lastOf, lastOf-zero, length-snoc}
 use Rattle.cartesian.specs.Tree.{leftmostFrom, leftmost, treeWithin, tree, sameTree}
 use Rattle.cartesian.specs.Distances.{distanceAt, distances, cut}

@@ -12,7 +12,7 @@ use lib.ListN.{length, getD, take, drop, length-append, List·getD-eq-default}
 use lib.Seq.{getD-take, getD-drop}
 use Rattle.lists.proofs.Select.{getD-mem}
 use Rattle.lists.proofs.Members.{length-flatten-suc, length-flatten-take}
-use Rattle.lists.specs.Lists.{all, begins}
+use Rattle.lists.specs.Prelude.{all, begins}
 use Rattle.lists.proofs.Lists.{and-split, all-mem, begins-iff, getD-tabulate}
 use Rattle.cartesian.specs.Distances.{distances}
 use Rattle.cartesian.proofs.Seek.{getD-distances, distance-le}

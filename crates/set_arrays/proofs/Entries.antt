@@ -14,8 +14,9 @@ use Rattle.lists.proofs.Lists.{begins-iff}
 use Rattle.pattern_set.specs.PatternSet.{PatternSet, setWords, patternsIn, readSet}
 use Rattle.pattern_set.proofs.ReadSet.{readSet-iff}
 use Rattle.pattern_set.proofs.Words.{length-setWords}
-use Rattle.model.specs.Refusals.{firstMet, tellTwo, leave}
-use Rattle.model.specs.SetEntries.{setOf, checkTold, addRefusal, addTold, addAfter}
+use Rattle.model.specs.Refusals.{firstMet, told, after}
+use Rattle.model.proofs.Refusals.{tellTwo, leave}
+use Rattle.model.specs.SetEntries.{setOf, checkEntry, addEntry}
 use Rattle.set_arrays.specs.Rules.{isSet}
 use Rattle.set_arrays.specs.Moved.{appended}
 use Rattle.set_arrays.proofs.SetRules.{follows-reads, length-patterns, length-distances as distances-in, set-follows, set-broken}
@@ -23,21 +24,21 @@ use Rattle.set_arrays.proofs.Appending.{appended-words}
 
 -- ---- check_set
 
-pub check-broken : (ws : List ℕ) → isSet ws ≡ false → _≡_ {A = ℕ × ℕ × ℕ} (5, 0, 0) (checkTold ws)
+pub check-broken : (ws : List ℕ) → isSet ws ≡ false → _≡_ {A = ℕ × (ℕ × ℕ)} (5, (0, 0)) (told (0, 0) (checkEntry ws))
 check-broken ws h = rw (set-broken ws h) refl
 
-pub check-holds : (ws : List ℕ) (k n : ℕ) → isSet ws ≡ true → k ≡ getD ws 0 0 → n ≡ getD ws 1 0 → _≡_ {A = ℕ × ℕ × ℕ} (0, k, n) (checkTold ws)
+pub check-holds : (ws : List ℕ) (k n : ℕ) → isSet ws ≡ true → k ≡ getD ws 0 0 → n ≡ getD ws 1 0 → _≡_ {A = ℕ × (ℕ × ℕ)} (0, (k, n)) (told (0, 0) (checkEntry ws))
 check-holds ws k n h p q =
     let f = set-follows ws h in
-    rw (follows-reads ws f) (ap₂ (λ (a b : ℕ). (0, a, b)) (p ∙ sym (length-patterns ws f)) (q ∙ sym (distances-in ws f)))
+    rw (follows-reads ws f) (ap₂ (λ (a b : ℕ). (0, (a, b))) (p ∙ sym (length-patterns ws f)) (q ∙ sym (distances-in ws f)))
 
 -- ---- add_pattern
 
 -- the call is refused by the number r
 abbrev Refuses : List ℕ → List ℤ → ℕ → Type 0
-Refuses ws xs r = (_≡_ {A = ℕ × ℕ × ℕ} (r, 0, 0) (addTold ws xs)) × (ws ≡ addAfter ws xs)
+Refuses ws xs r = (_≡_ {A = ℕ × (ℕ × ℕ)} (r, (0, 0)) (told (0, 0) (addEntry ws xs))) × (ws ≡ after (addEntry ws xs) ws)
 
-refused : (ws : List ℕ) (xs : List ℤ) (r : ℕ) → addRefusal ws xs ≡ suc r → Refuses ws xs (suc r)
+refused : (ws : List ℕ) (xs : List ℤ) (r : ℕ) → firstMet (addEntry ws xs .conditions) ≡ suc r → Refuses ws xs (suc r)
 refused ws xs r e =
     let ps = setOf (readSet ws) in
     (ap (λ (a : ℕ). tellTwo a (length ps + 1) (length (flatten ps) + length xs)) (sym e), ap (λ (a : ℕ). leave a (setWords (ps ++ (distances xs ∷ []))) ws) (sym e))
@@ -53,7 +54,7 @@ add-broken ws xs z h b = refused ws xs 4 (rw (ne-eqb (length xs) 0 z, le-ltb 256
 
 -- where the pattern and the set are in order, the counts decide
 module _ (ws : List ℕ) (xs : List ℤ) (k n : ℕ) (z : length xs ≡ 0 → ⊥) (h : length xs ≤ 256) (t : isSet ws ≡ true) (p : k ≡ getD ws 0 0) (q : n ≡ getD ws 1 0) where
-  counts : addRefusal ws xs ≡ firstMet ((6, leb 64 k || ltb 4096 (n + length xs)) ∷ (10, ltb (length ws) (4 + k + (n + length xs))) ∷ [])
+  counts : firstMet (addEntry ws xs .conditions) ≡ firstMet ((6, leb 64 k || ltb 4096 (n + length xs)) ∷ (10, ltb (length ws) (4 + k + (n + length xs))) ∷ [])
   counts =
       let f = set-follows ws t in
       rw (ne-eqb (length xs) 0 z, le-ltb 256 (length xs) h, follows-reads ws f)
@@ -71,7 +72,7 @@ module _ (ws : List ℕ) (xs : List ℤ) (k n : ℕ) (z : length xs ≡ 0 → �
       refused ws xs 9 (counts ∙ rw (lt-leb 64 k l, le-ltb 4096 (n + length xs) m, lt-ltb (length ws) (4 + k + (n + length xs)) (omega arith)) refl)
 
   pub add-done : (vs : List ℕ) → k < 64 → n + length xs ≤ 4096 → 4 + k + n + length xs ≤ length ws → vs ≡ appended k n (distances xs) ws
-      → (_≡_ {A = ℕ × ℕ × ℕ} (0, k + 1, n + length xs) (addTold ws xs)) × (vs ≡ addAfter ws xs)
+      → (_≡_ {A = ℕ × (ℕ × ℕ)} (0, (k + 1, n + length xs)) (told (0, 0) (addEntry ws xs))) × (vs ≡ after (addEntry ws xs) ws)
   add-done vs l m s e =
       let f = set-follows ws t in
       let ps = patternsIn ws in
@@ -80,11 +81,11 @@ module _ (ws : List ℕ) (xs : List ℤ) (k n : ℕ) (z : length xs ≡ 0 → �
       let a : length ps ≡ k = length-patterns ws f ∙ sym p in
       let b : length (flatten ps) ≡ n = distances-in ws f ∙ sym q in
       let o : setOf (readSet ws) ≡ ps = ap setOf (follows-reads ws f) in
-      let c : addRefusal ws xs ≡ 0 = counts ∙ rw (lt-leb 64 k l, le-ltb 4096 (n + length xs) m, le-ltb (length ws) (4 + k + (n + length xs)) (omega arith)) refl in
+      let c : firstMet (addEntry ws xs .conditions) ≡ 0 = counts ∙ rw (lt-leb 64 k l, le-ltb 4096 (n + length xs) m, le-ltb (length ws) (4 + k + (n + length xs)) (omega arith)) refl in
       let u : length ws ≡ 3 + length ps + length (flatten ps) + length (w .0) = ap length (w .1) ∙ length-append (setWords ps) (w .0) ∙ ap (λ (i : ℕ). i + length (w .0)) (length-setWords ps) in
       let d : appended (length ps) (length (flatten ps)) (distances xs) (setWords ps ++ w .0) ≡ setWords (ps ++ (distances xs ∷ [])) ++ drop (length (setWords (ps ++ (distances xs ∷ [])))) (setWords ps ++ w .0) =
       appended-words ps (w .0) (distances xs) (omega (arith, length-distances xs, u, a, b)) in (
-        ap₂ (λ (i j : ℕ). (0, i + 1, j + length xs)) (sym a) (sym b)
+        ap₂ (λ (i j : ℕ). (0, (i + 1, j + length xs))) (sym a) (sym b)
             ∙ ap (λ (qs : PatternSet). tellTwo 0 (length qs + 1) (length (flatten qs) + length xs)) (sym o)
             ∙ ap (λ (i : ℕ). tellTwo i (length (setOf (readSet ws)) + 1) (length (flatten (setOf (readSet ws))) + length xs)) (sym c),
         e

@@ -6,3 +6,4 @@ pub mod Moving
 pub mod Appending
 pub mod Laws
 pub mod Entries
+pub mod Checked

@@ -6,7 +6,7 @@ use Prim.Native.Nat.{ℕ, zero, suc, _<_}
 use native.Mathlib.Omega.{arith}
 use lib.Dec.{T}
 use lib.ListN.{length, getD}
-use Rattle.lists.specs.Lists.{tabulate, all}
+use Rattle.lists.specs.Prelude.{tabulate, all}
 use Rattle.lists.proofs.Lists.{and-split, and-join}
 use Rattle.lists.proofs.Members.{flatten-append}
 

@@ -9,7 +9,7 @@ use native.Mathlib.Numerals.{add-one}
 use lib.Dec.{T, leb, leb→le, le→leb}
 use lib.ListN.{length, getD, take, drop, length-append, length-drop, take-append-drop}
 use lib.Seq.{take-suc, take-add, drop-drop, length-take-le, getD-take, getD-drop, ext-getD, take-length}
-use Rattle.lists.specs.Lists.{tabulate, all}
+use Rattle.lists.specs.Prelude.{tabulate, all}
 use Rattle.lists.proofs.Lists.{and-split, and-join, begins-iff, length-tabulate, getD-tabulate, take-tabulate}
 use Rattle.lists.proofs.Members.{flatten-append, flatten-tabulate}
 use Rattle.realization.specs.Realizable.{realizable}

@@ -1,7 +1,8 @@
 // The entries on sets of patterns that lie in lent arrays: write the empty set, check an array, add a pattern.
 ghost use mathlib.Core.Path.{_≡_};
 ghost use Rattle.answers.specs.Told.{toldWritten, toldSize};
-ghost use Rattle.model.specs.SetEntries.{emptySetTold, emptySetAfter, checkTold, addTold, addAfter};
+ghost use Rattle.model.specs.Refusals.{told, after};
+ghost use Rattle.model.specs.SetEntries.{emptySetEntry, checkEntry, addEntry};
 use answers::Refusal;
 use answers::SetSize;
 use answers::Written;
@@ -11,8 +12,8 @@ pub mod rules;
 
 // Writes the empty set.
 pub fn empty_set(out: &mut [u32]) -> Written
-    ensures { λ r. ⌜ toldWritten r ≡ emptySetTold (now (out .entry)) ⌝ }
-    ensures { λ _. ⌜ now (out .exit) ≡ emptySetAfter (now (out .entry)) ⌝ }
+    ensures { λ r. ⌜ toldWritten r ≡ told 0 (emptySetEntry (now (out .entry))) ⌝ }
+    ensures { λ _. ⌜ now (out .exit) ≡ after (emptySetEntry (now (out .entry))) (now (out .entry)) ⌝ }
 {
     if out.len() < 3 {
         return Written::Refused(Refusal::ArrayTooShort);
@@ -25,7 +26,7 @@ pub fn empty_set(out: &mut [u32]) -> Written
 
 // The patterns and the distances of the set with whose words the array begins.
 pub fn check_set(words: &[u32]) -> SetSize
-    ensures { λ r. ⌜ toldSize r ≡ checkTold (now (words .entry)) ⌝ }
+    ensures { λ r. ⌜ toldSize r ≡ told (0, 0) (checkEntry (now (words .entry))) ⌝ }
 {
     if !rules::is_set(words) {
         return SetSize::Refused(Refusal::BrokenSet);
@@ -35,8 +36,8 @@ pub fn check_set(words: &[u32]) -> SetSize
 
 // Adds a pattern, given as values, to the set with whose words the array begins: it becomes the last one.
 pub fn add_pattern(words: &mut [u32], values: &[i32]) -> SetSize
-    ensures { λ r. ⌜ toldSize r ≡ addTold (now (words .entry)) (now (values .entry)) ⌝ }
-    ensures { λ _. ⌜ now (words .exit) ≡ addAfter (now (words .entry)) (now (values .entry)) ⌝ }
+    ensures { λ r. ⌜ toldSize r ≡ told (0, 0) (addEntry (now (words .entry)) (now (values .entry))) ⌝ }
+    ensures { λ _. ⌜ now (words .exit) ≡ after (addEntry (now (words .entry)) (now (values .entry))) (now (words .entry)) ⌝ }
 {
     let m = values.len();
     if m == 0 {

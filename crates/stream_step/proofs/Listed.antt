@@ -11,7 +11,7 @@ use lib.Dec.{T, eqb, eqb·suc-zero, leb, leb→le, le→leb}
 use lib.ListN.{length, getD, drop, length-append, length-drop}
 use lib.Seq.{length-take-le, getD-take, getD-drop}
 use borrow.Author.Tests.{eqb-true}
-use Rattle.lists.specs.Lists.{tabulate, select, same}
+use Rattle.lists.specs.Prelude.{tabulate, select, same}
 use Rattle.lists.proofs.Lists.{same-eq}
 use Rattle.lists.proofs.Select.{getD-mem, mem-below}
 use Rattle.pattern_set.specs.PatternSet.{PatternSet, goodSet}

@@ -8,7 +8,7 @@ use native.Mathlib.Omega.{arith}
 use lib.Dec.{T}
 use lib.ListN.{length, getD, take, drop, set, length-drop, length-map, drop-of-length-le}
 use lib.Seq.{length-take-le, take-all, take-at, drop-at, drop-drop, drop-cons, set-at, take-suc, append-snoc}
-use Rattle.lists.specs.Lists.{select}
+use Rattle.lists.specs.Prelude.{select}
 use Rattle.lists.proofs.Order.{T-true}
 use Rattle.lists.proofs.Lists.{length-snoc}
 use Rattle.lists.proofs.Members.{map-append}

@@ -10,7 +10,7 @@ use native.Mathlib.Nat.{le-refl}
 use lib.Dec.{T, leb}
 use lib.ListN.{length, take}
 use borrow.Author.Tests.{leb-true}
-use Rattle.lists.specs.Lists.{any, begins}
+use Rattle.lists.specs.Prelude.{any, begins}
 use Rattle.lists.proofs.Order.{T-true, true-T}
 use Rattle.lists.proofs.Lists.{eq-same, mem-any, all-mem, length-snoc}
 use Rattle.cartesian.specs.Distances.{cut}

@@ -7,7 +7,7 @@ use native.Mathlib.Omega.{arith}
 use lib.Dec.{T, leb, leb→le}
 use lib.ListN.{length, getD, take, drop, set, length-append, length-drop, length-set}
 use lib.Seq.{take-length}
-use Rattle.lists.specs.Lists.{all}
+use Rattle.lists.specs.Prelude.{all}
 use Rattle.lists.proofs.Lists.{and-split}
 use Rattle.pattern_set.specs.PatternSet.{PatternSet, goodPattern, goodSet}
 use Rattle.matching.specs.Hits.{hitWords}

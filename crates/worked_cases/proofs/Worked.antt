@@ -4,7 +4,7 @@ use mathlib.Core.Bool.{Bool, true, false, _&&_}
 use mathlib.Core.List.{List, [], _∷_, flatten}
 use lib.Dec.{T, eqb, eqb→eq}
 use lib.IntN.{ℤ, pos, negsuc}
-use Rattle.lists.specs.Lists.{tabulate, lastBelow, any, select, same}
+use Rattle.lists.specs.Prelude.{tabulate, lastBelow, any, select, same}
 use Rattle.lists.proofs.Lists.{and-split}
 use Rattle.cartesian.specs.Tree.{size, leftmostFrom, leftmost, treeWithin, tree, sameTree}
 use Rattle.cartesian.specs.Distances.{distanceAt, distances, cutFrom}

@@ -6,15 +6,16 @@ use Rattle.realization.specs.FailureLength.{failureLengths}
 use Rattle.global_parents.specs.GlobalParents.{globalParents}
 use Rattle.ranking.specs.Rank.{rank, unrank}
 use Rattle.matching.specs.Hits.{hits, hitWords}
-use Rattle.model.specs.PatternEntries.{listTold, encodeTold, decodeTold}
+use Rattle.model.specs.Refusals.{told}
+use Rattle.model.specs.PatternEntries.{listEntry, encodeEntry, decodeEntry}
 
 -- numbers as values
 abbrev pub values : List ℕ → List ℤ
 values = map pos
 
 -- refusal and count, as a list
-abbrev pub told : ℕ × ℕ → List ℕ
-told t = t .0 ∷ t .1 ∷ []
+abbrev pub both : ℕ × ℕ → List ℕ
+both t = t .0 ∷ t .1 ∷ []
 
 -- distances of values given as numbers
 abbrev pub of : List ℕ → List ℕ
@@ -35,7 +36,7 @@ table =
     is (of (2 ∷ 7 ∷ 5 ∷ 6 ∷ 4 ∷ 3 ∷ 1 ∷ [])) (0 ∷ 1 ∷ 2 ∷ 1 ∷ 4 ∷ 5 ∷ 0 ∷ [])
     ∷ is (of (11 ∷ 14 ∷ 13 ∷ 15 ∷ 12 ∷ [])) (0 ∷ 1 ∷ 2 ∷ 1 ∷ 4 ∷ [])
     ∷ is (rank (of (11 ∷ 14 ∷ 13 ∷ 15 ∷ 12 ∷ [])) ∷ []) (107 ∷ [])
-    ∷ is (told (encodeTold (of (11 ∷ 14 ∷ 13 ∷ 15 ∷ 12 ∷ [])))) (0 ∷ 107 ∷ [])
+    ∷ is (both (told 0 (encodeEntry (of (11 ∷ 14 ∷ 13 ∷ 15 ∷ 12 ∷ []))))) (0 ∷ 107 ∷ [])
     ∷ is (of (4 ∷ 22 ∷ 3 ∷ 5 ∷ 2 ∷ 23 ∷ 15 ∷ 1 ∷ [])) (0 ∷ 1 ∷ 0 ∷ 1 ∷ 0 ∷ 1 ∷ 2 ∷ 0 ∷ [])
     -- distances, global parents, least values
     ∷ is (of (3 ∷ 1 ∷ 6 ∷ 4 ∷ 8 ∷ 6 ∷ 7 ∷ 5 ∷ 9 ∷ [])) (0 ∷ 0 ∷ 1 ∷ 2 ∷ 1 ∷ 2 ∷ 1 ∷ 4 ∷ 1 ∷ [])
@@ -45,14 +46,14 @@ table =
     ∷ is (of (5 ∷ 5 ∷ [])) (0 ∷ 1 ∷ [])
     ∷ is (of (5 ∷ 4 ∷ [])) (0 ∷ 0 ∷ [])
     -- a list that no values have, and one that some have
-    ∷ is (told (listTold (0 ∷ 1 ∷ 2 ∷ 2 ∷ []) 4)) (4 ∷ 0 ∷ [])
-    ∷ is (told (encodeTold (0 ∷ 1 ∷ 2 ∷ 2 ∷ []))) (4 ∷ 0 ∷ [])
+    ∷ is (both (told 0 (listEntry leastRealization (0 ∷ 1 ∷ 2 ∷ 2 ∷ []) (values (7 ∷ 7 ∷ 7 ∷ 7 ∷ []))))) (4 ∷ 0 ∷ [])
+    ∷ is (both (told 0 (encodeEntry (0 ∷ 1 ∷ 2 ∷ 2 ∷ [])))) (4 ∷ 0 ∷ [])
     ∷ record { given = leastRealization (0 ∷ 1 ∷ 2 ∷ 3 ∷ []); expected = values (0 ∷ 2 ∷ 1 ∷ 0 ∷ []) }
     -- codes of length 4
     ∷ is (unrank 4 23) (0 ∷ 1 ∷ 2 ∷ 3 ∷ [])
-    ∷ is (told (decodeTold 4 23 4)) (0 ∷ 4 ∷ [])
-    ∷ is (told (decodeTold 4 17 4)) (4 ∷ 0 ∷ [])
-    ∷ is (told (decodeTold 4 24 4)) (4 ∷ 0 ∷ [])
+    ∷ is (both (told 0 (decodeEntry 4 23 (7 ∷ 7 ∷ 7 ∷ 7 ∷ [])))) (0 ∷ 4 ∷ [])
+    ∷ is (both (told 0 (decodeEntry 4 17 (7 ∷ 7 ∷ 7 ∷ 7 ∷ [])))) (4 ∷ 0 ∷ [])
+    ∷ is (both (told 0 (decodeEntry 4 24 (7 ∷ 7 ∷ 7 ∷ 7 ∷ [])))) (4 ∷ 0 ∷ [])
     -- failure lengths
     ∷ is (failureLengths (of (5 ∷ 7 ∷ 4 ∷ 6 ∷ 1 ∷ 3 ∷ 2 ∷ []))) (0 ∷ 1 ∷ 1 ∷ 2 ∷ 3 ∷ 4 ∷ 1 ∷ [])
     -- hits: last place and pattern number

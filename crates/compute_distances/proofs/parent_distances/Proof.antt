@@ -6,7 +6,7 @@ use mathlib.Core.Logic.{⊎-elim}
 use lib.ListN.{length, drop, take, set, getD, length-set}
 use lib.Seq.{take-at}
 use lib.IntN.{pos}
-use Rattle.lists.specs.Lists.{tabulate}
+use Rattle.lists.specs.Prelude.{tabulate}
 use Rattle.lists.proofs.Lists.{tabulate-more, length-tabulate}
 use Rattle.cartesian.specs.Distances.{distanceAt, distances}
 use Rattle.cartesian.proofs.Seek.{seek-le, dist-none, dist-some}

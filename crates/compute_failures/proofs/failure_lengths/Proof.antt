@@ -5,7 +5,7 @@ use mathlib.Core.Path.{_≡_, ap, _∙_}
 use mathlib.Core.List.{List, _++_}
 use lib.ListN.{length, drop, take, set, length-set}
 use lib.Seq.{take-at}
-use Rattle.lists.specs.Lists.{tabulate}
+use Rattle.lists.specs.Prelude.{tabulate}
 use Rattle.lists.proofs.Lists.{tabulate-more, length-tabulate}
 use Rattle.realization.specs.FailureLength.{failureLength, failureLengths}
 use Rattle.compute_failures.proofs.Laws.{failure-lt}

@@ -4,7 +4,7 @@ use native.Mathlib.Omega.{arith}
 use borrow.Author.Needs.{needs}
 use Prim.Native.Nat.{_<_, _+_}
 use mathlib.Core.Path.{_≡_, sym, _∙_}
-use Rattle.lists.specs.Lists.{lastBelow}
+use Rattle.lists.specs.Prelude.{lastBelow}
 use Rattle.compute_parents.specs.Steps.{isRootFrom}
 use Rattle.compute_parents.proofs.Walk.{link-le, leads-on, walk-starts, walk-ends, walk-goes-on}
 use Rattle.compute_parents.proofs.prefix_child.Statement.{statement}

@@ -4,7 +4,7 @@ use mathlib.Core.Path.{_≡_, _∙_}
 use mathlib.Core.List.{_++_}
 use Prim.Native.Nat.{_-_, _≤_}
 use lib.ListN.{length, drop, length-set}
-use Rattle.lists.specs.Lists.{tabulate}
+use Rattle.lists.specs.Prelude.{tabulate}
 use Rattle.ranking.specs.Rank.{unrank}
 use Rattle.compute_ranks.proofs.Laws.{digit-fits, unrank-goes-on}
 use borrow.Author.Needs.{needs}

@@ -1,6 +1,6 @@
 -- The result is the table's entry at i, which is i! by one test over the whole table: `rw` takes the table from the goal, and antt computes the test.
 use native.Mathlib.Omega.{arith}
-use Rattle.lists.specs.Lists.{tabulate, same}
+use Rattle.lists.specs.Prelude.{tabulate, same}
 use Rattle.ranking.specs.Rank.{factorial}
 use Rattle.compute_ranks.proofs.Table.{table-at}
 use Prim.Native.Nat.{_<_}

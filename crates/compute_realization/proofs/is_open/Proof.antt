@@ -5,7 +5,7 @@ use mathlib.Core.Path.{_≡_, sym, ap, _∙_}
 use native.Mathlib.Omega.{arith}
 use borrow.Author.Needs.{needs}
 use lib.Dec.{eqb}
-use Rattle.lists.specs.Lists.{any}
+use Rattle.lists.specs.Prelude.{any}
 use Rattle.compute_realization.specs.OpenPlaces.{openPlaces}
 use Rattle.compute_realization.proofs.OpenPlaces.{led-le, way-none, way-on, way-end}
 use Rattle.compute_realization.proofs.is_open.Statement.{statement}

@@ -7,6 +7,7 @@ use borrow.Author.Tests.{not-true, not-false}
 use lib.ListN.{length}
 use Rattle.answers.specs.declared.Refusal.{Refusal}
 use Rattle.ranking.proofs.Rank.{length-unrank}
+use Rattle.model.specs.PatternEntries.{decodeEntry}
 use Rattle.pattern.proofs.Laws.{refused, written, decode-empty, decode-code-too-long, decode-not-realizable, decode-array-too-short, decode-good}
 use Rattle.pattern.proofs.decode.Statement.{statement}
 use Rattle.pattern.proofs.decode.Tie as tie
@@ -14,12 +15,12 @@ use Rattle.pattern.proofs.decode.Tie as tie
 returns : tie.Need-returns
 returns c =
     let a = c .before .before .args in
-    refused Refusal.Empty _ _ _ _ (decode-empty (a .n) (a .code) (length (a .out .now)) (c .if1 .taken))
+    refused Refusal.Empty (decodeEntry (a .n) (a .code) (a .out .now)) (a .out .now) (decode-empty (a .n) (a .code) (a .out .now) (c .if1 .taken))
 
 returns-2 : tie.Need-returns-2
 returns-2 c =
     let a = c .before .before .before .args in
-    refused Refusal.CodeTooLong _ _ _ _ (decode-code-too-long (a .n) (a .code) (length (a .out .now)) (c .before .if1 .left) (omega arith))
+    refused Refusal.CodeTooLong (decodeEntry (a .n) (a .code) (a .out .now)) (a .out .now) (decode-code-too-long (a .n) (a .code) (a .out .now) (c .before .if1 .left) (omega arith))
 
 is-rank-requires : tie.Need-is-rank-requires
 is-rank-requires c κs = search needs
@@ -28,15 +29,15 @@ returns-3 : tie.Need-returns-3
 returns-3 c =
     let e = c .before .before in
     let a = e .before .before .before .args in
-    refused Refusal.NotRealizable _ _ _ _
-    (decode-not-realizable (a .n) (a .code) (length (a .out .now)) (e .before .if1 .left) (e .if2 .left) (sym (c .before .is-rank .ensures) ∙ not-true _ (c .if3 .taken)))
+    refused Refusal.NotRealizable (decodeEntry (a .n) (a .code) (a .out .now)) (a .out .now)
+    (decode-not-realizable (a .n) (a .code) (a .out .now) (e .before .if1 .left) (e .if2 .left) (sym (c .before .is-rank .ensures) ∙ not-true _ (c .if3 .taken)))
 
 returns-4 : tie.Need-returns-4
 returns-4 c =
     let e = c .before .before .before in
     let a = e .before .before .before .args in
-    refused Refusal.ArrayTooShort _ _ _ _
-    (decode-array-too-short (a .n) (a .code) (length (a .out .now)) (e .before .if1 .left) (e .if2 .left)
+    refused Refusal.ArrayTooShort (decodeEntry (a .n) (a .code) (a .out .now)) (a .out .now)
+    (decode-array-too-short (a .n) (a .code) (a .out .now) (e .before .if1 .left) (e .if2 .left)
     (sym (c .before .before .is-rank .ensures) ∙ not-false _ (c .before .if3 .left)) (c .if4 .taken))
 
 digits-of-requires : tie.Need-digits-of-requires
@@ -50,8 +51,8 @@ returns-5 c =
     let g = c .before .before .before .before in
     let e = g .before .before .before in
     let a = e .before .before .before .args in
-    written _ _ _ _ _
-    (decode-good (a .n) (a .code) (length (a .out .now)) (e .before .if1 .left) (e .if2 .left)
+    written (decodeEntry (a .n) (a .code) (a .out .now)) (a .out .now) _
+    (decode-good (a .n) (a .code) (a .out .now) (e .before .if1 .left) (e .if2 .left)
     (sym (g .before .before .is-rank .ensures) ∙ not-false _ (g .before .if3 .left)) (g .if4 .left))
     (length-unrank (a .n) (a .code)) (c .before .before .digits-of .ensures)
 

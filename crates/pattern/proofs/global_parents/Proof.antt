@@ -2,6 +2,8 @@
 -- `compute_parents::global_parents` writes.
 use borrow.Author.Needs.{needs}
 use lib.ListN.{length}
+use Rattle.global_parents.specs.GlobalParents.{globalParents}
+use Rattle.model.specs.PatternEntries.{listEntry}
 use Rattle.pattern.proofs.Laws.{refused, written, checked-refused, checked-good, list-unmet, length-globalParents}
 use Rattle.pattern.proofs.global_parents.Statement.{statement}
 use Rattle.pattern.proofs.global_parents.Tie as tie
@@ -24,7 +26,8 @@ global-parents-requires c κs =
 returns : tie.Need-returns
 returns c =
     let q = c .before .before .before in
-    refused (c .before .checked .given .0 .0) _ _ _ _ (checked-refused _ _ _ (q .check-list .ensures) (c .before .checked .given .1))
+    let a = q .before .before .before .args in
+    refused (c .before .checked .given .0 .0) (listEntry globalParents (a .ds .now) (a .out .now)) (a .out .now) (checked-refused _ _ _ (q .check-list .ensures) (c .before .checked .given .1))
 
 same-length : tie.Need-same-length
 same-length c = search needs
@@ -35,7 +38,7 @@ returns-2 c =
     let q = w .before .before .before .before in
     let a = q .before .before .before .args in
     let e = checked-good _ _ (q .check-list .ensures) (w .before .before .enum-told .given .1) in
-    written _ _ _ _ _ e (length-globalParents (a .ds .now)) (w .global-parents .ensures)
+    written (listEntry globalParents (a .ds .now) (a .out .now)) (a .out .now) _ e (length-globalParents (a .ds .now)) (w .global-parents .ensures)
 
 pub global-parents-spec : {M : Type 1} → statement M
 global-parents-spec = tie.close (tie.spec check-list-requires enum-known-checked enum-told global-parents-requires returns same-length returns-2)

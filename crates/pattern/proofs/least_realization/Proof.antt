@@ -2,6 +2,8 @@
 -- `compute_realization::least_realization` writes.
 use borrow.Author.Needs.{needs}
 use lib.ListN.{length}
+use Rattle.realization.specs.LeastRealization.{leastRealization}
+use Rattle.model.specs.PatternEntries.{listEntry}
 use Rattle.pattern.proofs.Laws.{refused, written, checked-refused, checked-good, list-unmet, length-leastRealization}
 use Rattle.pattern.proofs.least_realization.Statement.{statement}
 use Rattle.pattern.proofs.least_realization.Tie as tie
@@ -24,7 +26,8 @@ least-realization-requires c κs =
 returns : tie.Need-returns
 returns c =
     let q = c .before .before .before in
-    refused (c .before .checked .given .0 .0) _ _ _ _ (checked-refused _ _ _ (q .check-list .ensures) (c .before .checked .given .1))
+    let a = q .before .before .args in
+    refused (c .before .checked .given .0 .0) (listEntry leastRealization (a .ds .now) (a .out .now)) (a .out .now) (checked-refused _ _ _ (q .check-list .ensures) (c .before .checked .given .1))
 
 same-length : tie.Need-same-length
 same-length c = search needs
@@ -35,7 +38,7 @@ returns-2 c =
     let q = w .before .before .before .before in
     let a = q .before .before .args in
     let e = checked-good _ _ (q .check-list .ensures) (w .before .before .enum-told .given .1) in
-    written _ _ _ _ _ e (length-leastRealization (a .ds .now) (list-unmet (a .ds .now) (length (a .out .now)) e .0)) (w .least-realization .ensures)
+    written (listEntry leastRealization (a .ds .now) (a .out .now)) (a .out .now) _ e (length-leastRealization (a .ds .now) (list-unmet (a .ds .now) (length (a .out .now)) e .0)) (w .least-realization .ensures)
 
 pub least-realization-spec : {M : Type 1} → statement M
 least-realization-spec = tie.close (tie.spec check-list-requires enum-known-checked enum-told least-realization-requires returns same-length returns-2)

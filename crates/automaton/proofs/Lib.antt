@@ -1,0 +1,7 @@
+-- The root of the crate's laws.
+pub mod More
+pub mod Front
+pub mod Records
+pub mod Along
+pub mod Room
+pub mod Entries

@@ -1,0 +1,87 @@
+// Comparing words, whatever they are, with those of an automaton. k is the number of patterns and count that of the nodes.
+ghost use mathlib.Core.Path.{_≡_};
+ghost use Prim.Native.Nat.{_+_, _*_, _≤_, _<_};
+ghost use lib.ListN.{length, take, drop};
+ghost use Rattle.lists.specs.Prelude.{same, begins};
+ghost use Rattle.model.specs.Nodes.{nodes};
+ghost use Rattle.model.specs.AutomatonWords.{automatonWords};
+ghost use Rattle.set_access.specs.Patterns.{patternsOf, Good};
+ghost use Rattle.automaton_lookup.specs.Made.{Made};
+ghost use Rattle.automaton_records.specs.Words.{recordWords};
+use automaton_records::Record;
+
+pub(crate) fn wide(x: u32) -> usize
+    ensures { λ r. ⌜ r ≡ x ⌝ }
+{
+    x as usize
+}
+
+// Whether the words begin with the order, what neighbours share, and the number of nodes.
+pub(crate) fn is_front(set: &[u32], k: usize, words: &[u32]) -> bool
+    requires { ⌜ Good (now set) ⌝ }
+    requires { ⌜ k ≡ length (patternsOf (now set)) ⌝ }
+    ensures { λ r. ⌜ r ≡ same (take (2 * k + 1) (now (words .entry))) (take (2 * k + 1) (automatonWords (patternsOf (now (set .entry))))) ⌝ }
+{
+    if words.len() < 2 * k + 1 {
+        return false;
+    }
+    if !automaton_order::is_order(set, words) {
+        return false;
+    }
+    if !automaton_order::is_shared(set, words) {
+        return false;
+    }
+    wide(words[2 * k]) == automaton_order::count_nodes(set, words)
+}
+
+// Whether the words of a record stand from `at` on.
+fn is_record(words: &[u32], at: usize, r: Record) -> bool
+    requires { ⌜ at + 8 ≤ length (now words) ⌝ }
+    ensures { λ b. ⌜ b ≡ same (take 8 (drop at (now (words .entry)))) (recordWords r) ⌝ }
+{
+    let wanted = [
+        r.depth,
+        r.label,
+        r.failure,
+        r.output,
+        r.first_child,
+        r.children,
+        r.first_place,
+        r.ends,
+    ];
+    let mut i = 0;
+    while i < 8 {
+        if words[at + i] != wanted[i] {
+            return false;
+        }
+        i += 1;
+    }
+    true
+}
+
+// Whether the records of all nodes stand behind the number of nodes. Each is made from those before it, which are known to be right.
+pub(crate) fn are_records(set: &[u32], k: usize, count: usize, words: &[u32]) -> bool
+    requires { ⌜ Made (now set) (now words) 0 ⌝ }
+    requires { ⌜ (k ≡ length (patternsOf (now set))) × (count ≡ length (nodes (patternsOf (now set)))) ⌝ }
+    ensures { λ r. ⌜ r ≡ begins (now (words .entry)) (automatonWords (patternsOf (now (set .entry)))) ⌝ }
+{
+    let root = automaton_records::root_record(set);
+    if !is_record(words, 2 * k + 1, root) {
+        return false;
+    }
+    let mut parent: usize = 0;
+    let mut end: usize = 0;
+    let mut n: usize = 1;
+    while n < count {
+        parent = automaton_records::next_parent(set, words, k, n, n, parent);
+        let place = automaton_records::next_place(set, words, k, n, n, parent, end);
+        let made = automaton_records::make_record(set, words, k, n, parent, place);
+        let record = made.record;
+        if !is_record(words, 2 * k + 1 + 8 * n, record) {
+            return false;
+        }
+        end = made.end;
+        n += 1;
+    }
+    true
+}

@@ -1,0 +1,52 @@
+// The automaton of a set: the entry that builds it, and the check that an array begins with its words.
+ghost use mathlib.Core.Path.{_≡_};
+ghost use Prim.Native.Nat.{_<_};
+ghost use lib.ListN.{length};
+ghost use Rattle.lists.specs.Prelude.{begins};
+ghost use Rattle.answers.specs.Told.{toldBuilt};
+ghost use Rattle.model.specs.AutomatonWords.{automatonWords};
+ghost use Rattle.model.specs.Refusals.{told, after};
+ghost use Rattle.model.specs.SearchEntries.{buildEntry};
+ghost use Rattle.set_access.specs.Patterns.{patternsOf, Good};
+use answers::Built;
+use answers::Refusal;
+use answers::SetSize;
+
+mod building;
+mod checking;
+
+// Writes the automaton of the set. Refuses 1 5 10.
+pub fn build_automaton(set: &[u32], out: &mut [u32]) -> Built
+    ensures { λ r. ⌜ toldBuilt r ≡ told (0, 0) (buildEntry (now (set .entry)) (now (out .entry))) ⌝ }
+    ensures { λ _. ⌜ now (out .exit) ≡ after (buildEntry (now (set .entry)) (now (out .entry))) (now (out .entry)) ⌝ }
+{
+    let SetSize::Holds(k, n) = set_arrays::check_set(set) else {
+        return Built::Refused(Refusal::BrokenSet);
+    };
+    if k == 0 {
+        return Built::Refused(Refusal::Empty);
+    }
+    if out.len() < 16 * (1 + n) {
+        return Built::Refused(Refusal::ArrayTooShort);
+    }
+    let count = building::write_front(set, k, out);
+    building::write_records(set, k, count, out);
+    Built::Nodes(count, 2 * k + 1 + 8 * count)
+}
+
+// Whether the words, whatever they are, begin with the automaton of the set. Linear in the distances of the set; nothing is written.
+pub fn is_automaton(set: &[u32], words: &[u32]) -> bool
+    requires { ⌜ Good (now set) ⌝ }
+    requires { ⌜ 0 < length (patternsOf (now set)) ⌝ }
+    ensures { λ r. ⌜ r ≡ begins (now (words .entry)) (automatonWords (patternsOf (now (set .entry)))) ⌝ }
+{
+    let k = set_access::pattern_count(set);
+    if !checking::is_front(set, k, words) {
+        return false;
+    }
+    let count = checking::wide(words[2 * k]);
+    if words.len() < 2 * k + 1 + 8 * count {
+        return false;
+    }
+    checking::are_records(set, k, count, words)
+}

@@ -1,0 +1,10 @@
+-- The root of the crate's laws.
+pub mod More
+pub mod Shared
+pub mod Intervals
+pub mod Failures
+pub mod Parents
+pub mod Links
+pub mod Root
+pub mod Sizes
+pub mod Records

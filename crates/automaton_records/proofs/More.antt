@@ -1,0 +1,47 @@
+-- The distances of suffixes by the distances of the whole: a suffix of a suffix, and a suffix of a list with one distance more, of which only that one is new.
+use mathlib.Core.Path.{_≡_, sym, _∙_, ap}
+use mathlib.Core.List.{List, [], _∷_, _++_}
+use Prim.Native.Nat.{ℕ, suc, _+_, _-_, _≤_}
+use native.Mathlib.Omega.{arith}
+use lib.Dec.{T}
+use lib.ListN.{length, drop, length-append}
+use lib.Seq.{drop-append-le}
+use Rattle.lists.specs.Prelude.{lastOf}
+use Rattle.lists.proofs.Lists.{length-lastOf, lastOf-all}
+use Rattle.cartesian.specs.Distances.{distances, cut, cutFrom, suffixDistances}
+use Rattle.cartesian.proofs.Window.{length-cutFrom, distances-lastOf}
+use Rattle.realization.specs.Realizable.{realizable}
+use Rattle.realization.specs.LeastRealization.{leastRealization}
+use Rattle.realization.proofs.LeastRealization.{least-distances, length-least}
+
+pub length-snoc : {A : Type 0} (xs : List A) (x : A) → length (xs ++ (x ∷ [])) ≡ suc (length xs)
+length-snoc xs x = length-append xs (x ∷ []) ∙ (omega arith)
+
+pub lastOf-snoc : {A : Type 0} (m : ℕ) (xs : List A) (x : A) → m ≤ length xs → lastOf (suc m) (xs ++ (x ∷ [])) ≡ lastOf m xs ++ (x ∷ [])
+lastOf-snoc m xs x h =
+    let e : length (xs ++ (x ∷ [])) - suc m ≡ length xs - m = rw length-append (omega arith) in
+    ap (λ (k : ℕ). drop k (xs ++ (x ∷ []))) e ∙ drop-append-le (length xs - m) xs (x ∷ []) (omega arith)
+
+cutFrom-snoc : (i : ℕ) (ds : List ℕ) (v : ℕ) → cutFrom i (ds ++ (v ∷ [])) ≡ cutFrom i ds ++ (cut (i + length ds) v ∷ [])
+unfolding cutFrom
+cutFrom-snoc i [] v = ap (λ (k : ℕ). cut k v ∷ []) (let e : i ≡ i + 0 = omega arith in e)
+cutFrom-snoc i (d ∷ ds) v =
+    ap (λ (l : List ℕ). cut i d ∷ l)
+    (cutFrom-snoc (suc i) ds v ∙ ap (λ (k : ℕ). cutFrom (suc i) ds ++ (cut k v ∷ [])) (let e : suc i + length ds ≡ i + suc (length ds) = omega arith in e))
+
+pub length-suffix : (m : ℕ) (h : List ℕ) → m ≤ length h → length (suffixDistances m h) ≡ m
+length-suffix m h l = length-cutFrom 0 (lastOf m h) ∙ length-lastOf m h l
+
+-- one value more: its distance is cut
+pub suffix-snoc : (m : ℕ) (h : List ℕ) (v : ℕ) → m ≤ length h → suffixDistances (suc m) (h ++ (v ∷ [])) ≡ suffixDistances m h ++ (cut (length (suffixDistances m h)) v ∷ [])
+suffix-snoc m h v l =
+    ap (cutFrom 0) (lastOf-snoc m h v l) ∙ cutFrom-snoc 0 (lastOf m h) v
+    ∙ ap (λ (k : ℕ). suffixDistances m h ++ (cut k v ∷ [])) (let e : 0 + length (lastOf m h) ≡ length (cutFrom 0 (lastOf m h)) = omega (arith, length-cutFrom 0 (lastOf m h)) in e)
+
+-- the distances of the suffixes of a realization
+pub suffix-realized : (m : ℕ) (h : List ℕ) → T (realizable h) → distances (lastOf m (leastRealization h)) ≡ suffixDistances m h
+suffix-realized m h t = distances-lastOf m (leastRealization h) ∙ ap (suffixDistances m) (least-distances h t)
+
+pub suffix-all : (h : List ℕ) → T (realizable h) → suffixDistances (length h) h ≡ h
+suffix-all h t =
+    sym (suffix-realized (length h) h t) ∙ ap distances (lastOf-all (length h) (leastRealization h) (omega (arith, length-least h t))) ∙ least-distances h t

@@ -1,0 +1,31 @@
+-- How large the words of a record are: no number is above that of the nodes, which is at most 4097.
+use mathlib.Core.List.{List}
+use Prim.Native.Nat.{ℕ, _+_, _≤_, _<_}
+use native.Mathlib.Omega.{arith}
+use lib.ListN.{length}
+use Rattle.pattern_set.specs.PatternSet.{PatternSet}
+use Rattle.model.specs.Nodes.{nodes, headOf}
+use Rattle.model.specs.AutomatonWords.{endsAt}
+use Rattle.model.proofs.Nodes.{node-head, head-length}
+use Rattle.model.proofs.Lengths.{length-nodes}
+use Rattle.model.proofs.Order.{firstPlace, ends-within, beginsAt, begins-within, beginsAt-head}
+use Rattle.set_access.specs.Patterns.{patternsOf, Good}
+use Rattle.set_access.proofs.Laws.{good-set, count-le, total-le}
+
+-- some pattern begins with the head of a node
+pub node-some : (ps : PatternSet) (n : ℕ) → n < length (nodes ps) → (0 < beginsAt ps (headOf ps n)) × (firstPlace ps (headOf ps n) + beginsAt ps (headOf ps n) ≤ length ps)
+node-some ps n h = (beginsAt-head ps (headOf ps n) (node-head ps n h .0), begins-within ps (headOf ps n))
+
+module _ (ws : List ℕ) (good : Good ws) where
+  pub nodes-small : length (nodes (patternsOf ws)) ≤ 4097
+  nodes-small = omega (arith, length-nodes (patternsOf ws), total-le ws good)
+
+  pub depth-small : (n : ℕ) → n < length (nodes (patternsOf ws)) → length (headOf (patternsOf ws) n) ≤ 256
+  depth-small n h = head-length (patternsOf ws) (good-set ws good) (headOf (patternsOf ws) n) (node-head (patternsOf ws) n h .0)
+
+  -- a place, and how many patterns end at a node
+  pub places-small : (n : ℕ) → (firstPlace (patternsOf ws) (headOf (patternsOf ws) n) ≤ 64) × (endsAt (patternsOf ws) (headOf (patternsOf ws) n) ≤ 64)
+  places-small n =
+      let w = ends-within (patternsOf ws) (headOf (patternsOf ws) n) in
+      let c = count-le ws good in
+      (omega arith, omega arith)

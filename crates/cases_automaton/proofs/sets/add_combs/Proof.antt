@@ -1,0 +1,56 @@
+-- `add_combs` is safe and ends.
+use mathlib.Core.Path.{_≡_}
+use lib.ListN.{length}
+use Prim.Native.Nat.{_≤_, _-_}
+use borrow.Author.Needs.{needs}
+use Rattle.cases_automaton.proofs.sets.add_combs.Statement.{statement}
+use Rattle.cases_automaton.proofs.sets.add_combs.Tie as tie
+
+abbrev Inv-loop : tie.InvT-loop
+Inv-loop set₀ j₀ set j = (length set ≡ length set₀) × (j ≤ 64)
+
+abbrev μ-loop : tie.MeasureT-loop
+μ-loop set₀ j₀ set j = 64 - j
+
+empty-set-requires : tie.Need-empty-set-requires Inv-loop μ-loop
+empty-set-requires c κs = search needs
+
+loop-holds : tie.Need-loop-holds Inv-loop μ-loop
+loop-holds c = search needs
+
+sub-add-comb : tie.Need-sub-add-comb Inv-loop μ-loop
+sub-add-comb c = search needs
+
+add-comb-requires : tie.Need-add-comb-requires Inv-loop μ-loop
+add-comb-requires c κs = search needs
+
+add-j : tie.Need-add-j Inv-loop μ-loop
+add-j c = search needs
+
+loop-less : tie.Need-loop-less Inv-loop μ-loop
+loop-less c = search needs
+
+loop-again : tie.Need-loop-again Inv-loop μ-loop
+loop-again c = search needs
+
+same-length : tie.Need-same-length Inv-loop μ-loop
+same-length c = search needs
+
+returns : tie.Need-returns Inv-loop μ-loop
+returns c = search needs
+
+pub add-combs-spec : {M : Type 1} → statement M
+add-combs-spec =
+    tie.close
+    (tie.spec
+    Inv-loop
+    μ-loop
+    empty-set-requires
+    loop-holds
+    sub-add-comb
+    add-comb-requires
+    add-j
+    loop-less
+    loop-again
+    same-length
+    returns)

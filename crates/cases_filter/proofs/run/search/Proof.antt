@@ -1,0 +1,35 @@
+-- `search` is safe and ends.
+use lib.ListN.{length-take}
+use native.Mathlib.Omega.{arith}
+use borrow.Author.Needs.{needs}
+use Rattle.cases_filter.proofs.run.search.Statement.{statement}
+use Rattle.cases_filter.proofs.run.search.Tie as tie
+
+smaller-requires : tie.Need-smaller-requires
+smaller-requires c κs = search needs
+
+slice-relend-prefix-filter-search : tie.Need-slice-relend-prefix-filter-search
+slice-relend-prefix-filter-search c = search needs
+
+slice-aggregate-filter-search : tie.Need-slice-aggregate-filter-search
+slice-aggregate-filter-search c = simp length-take (omega arith)
+
+filter-search-requires : tie.Need-filter-search-requires
+filter-search-requires c κs = search needs
+
+same-length : tie.Need-same-length
+same-length c = search needs
+
+returns : tie.Need-returns
+returns c = search needs
+
+pub search-spec : {M : Type 1} → statement M
+search-spec =
+    tie.close
+    (tie.spec
+    smaller-requires
+    slice-relend-prefix-filter-search
+    slice-aggregate-filter-search
+    filter-search-requires
+    same-length
+    returns)

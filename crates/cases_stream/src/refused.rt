@@ -1,0 +1,122 @@
+// Calls that are refused, between those that are not.
+use crate::calls;
+use answers::SearchState;
+use test_inputs::arrays;
+use test_inputs::texts;
+
+// The words that a hit array must have.
+fn need(set: &[u32]) -> usize {
+    2 * test_plain::pattern_count(set)
+}
+
+fn number_of_nodes(set: &[u32], automaton: &[u32]) -> usize {
+    arrays::number(automaton, 2 * test_plain::pattern_count(set))
+}
+
+// A changed word of the automaton: 7, whatever else is wrong.
+fn other_automaton(
+    set: &[u32],
+    automaton: &mut [u32],
+    s: SearchState,
+    text: &[i32],
+    seed: usize,
+) -> bool {
+    let i = texts::pick(
+        seed,
+        8 * arrays::smaller(number_of_nodes(set, automaton), 1000),
+    );
+    let before = arrays::number(automaton, i);
+    arrays::put(automaton, i, arrays::smaller(before, 100000) + 1);
+    let a = calls::refuses(set, automaton, s, text, 256, 7);
+    let b = calls::refuses(
+        set,
+        automaton,
+        test_states::changed(s, 4294967295, s.taken),
+        text,
+        0,
+        7,
+    );
+    arrays::put(automaton, i, before);
+    a && b
+}
+
+// A hit array one word too short, with values or with none: 10.
+fn short_hits(set: &[u32], automaton: &[u32], s: SearchState, text: &[i32]) -> bool {
+    let n = need(set);
+    if n == 0 {
+        return false;
+    }
+    let a = calls::refuses(set, automaton, s, text, n - 1, 10);
+    let b = calls::refuses(set, automaton, s, &[], n - 1, 10);
+    a && b
+}
+
+// The empty set: 1. What is no set: 5. A good set to which the automaton does not belong: 7.
+fn other_sets(automaton: &[u32], s: SearchState, text: &[i32]) -> bool {
+    let a = calls::refuses(&[0, 0, 0], automaton, s, text, 256, 1);
+    let b = calls::refuses(&[1, 1, 0, 1, 1], automaton, s, text, 256, 5);
+    let c = calls::refuses(&[2, 3, 0, 1, 3, 0, 0, 0], automaton, s, text, 256, 7);
+    a && b && c
+}
+
+fn smaller_automaton(s: SearchState, text: &[i32], automaton: &mut [u32]) -> bool {
+    finder::build_automaton(&[1, 1, 0, 1, 0], automaton);
+    if s.node < 2 {
+        return true;
+    }
+    calls::refuses(&[1, 1, 0, 1, 0], automaton, s, text, 256, 8)
+}
+
+// Another good set with its own automaton, of two nodes, which has not got the state's node: 8.
+fn other_search(s: SearchState, text: &[i32]) -> bool {
+    let mut automaton = [0u32; 32];
+    smaller_automaton(s, text, &mut automaton)
+}
+
+// A node outside of the automaton, more values taken than a search takes, and minima that do not end with the last value taken: 8.
+fn broken_states(set: &[u32], automaton: &[u32], s: SearchState, text: &[i32]) -> bool {
+    let n = arrays::narrow(number_of_nodes(set, automaton));
+    let a = calls::refuses(
+        set,
+        automaton,
+        test_states::changed(s, n, s.taken),
+        text,
+        256,
+        8,
+    );
+    let b = calls::refuses(
+        set,
+        automaton,
+        test_states::changed(s, 0, 1048577),
+        text,
+        0,
+        8,
+    );
+    let c = calls::refuses(
+        set,
+        automaton,
+        test_states::changed(s, s.node, std::num::wrapping_add_u32(s.taken, 1)),
+        text,
+        256,
+        8,
+    );
+    a && b && c
+}
+
+// Whether refused calls of a kind that the seed gives are refused.
+pub(crate) fn all_refused(
+    set: &[u32],
+    automaton: &mut [u32],
+    s: SearchState,
+    text: &[i32],
+    seed: usize,
+) -> bool {
+    match texts::pick(seed, 9) {
+        0 => other_automaton(set, automaton, s, text, texts::next(seed)),
+        1 => short_hits(set, automaton, s, text),
+        2 => other_sets(automaton, s, text),
+        3 => other_search(s, text),
+        4 => broken_states(set, automaton, s, text),
+        _ => true,
+    }
+}

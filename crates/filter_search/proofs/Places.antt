@@ -1,0 +1,139 @@
+-- THE PATTERNS OF A PLACE, BY RANK: the members of a set of ranks, in their order, are the patterns that pass its test in the order of the hits; so they are the place's hits, and as many as its candidates. A place without candidates has no likely pattern, and one without likely patterns no hit.
+use mathlib.Core.Path.{_≡_, refl, sym, _∙_, ap, ap₂, subst}
+use mathlib.Core.Bool.{Bool, true, _&&_}
+use mathlib.Core.List.{List, [], _∷_, map, flatten, List·Memᴰ, List·Memᴰ·head, List·Memᴰ·tail}
+use Prim.Native.Nat.{ℕ, suc, _+_, _/_, _≤_, _<_}
+use native.Mathlib.Omega.{arith}
+use native.Mathlib.Decide.{decLt}
+use borrow.Author.Tests.{lt-ltb, ltb-true}
+use lib.Dec.{T, leb, ltb, leb→le}
+use lib.IntN.{ℤ}
+use lib.ListN.{length, getD, take, length-append, length-map}
+use Rattle.lists.specs.Prelude.{tabulate, select, all}
+use Rattle.lists.proofs.Lists.{and-split, and-join}
+use Rattle.lists.proofs.Members.{flatten-tabulate}
+use Rattle.lists.proofs.Select.{getD-mem, mem-getD}
+use Rattle.lists.proofs.Order.{T-true, true-T}
+use Rattle.bit_sets.specs.BitSets.{bitAt, bits}
+use Rattle.bit_sets.proofs.Laws.{mem-bits}
+use Rattle.bit_sets.proofs.Digits.{bitAt-none}
+use Rattle.pattern_set.specs.PatternSet.{PatternSet, goodSet, goodPattern}
+use Rattle.matching.specs.Hits.{lastHits, hitsAt}
+use Rattle.model.specs.SearchEntries.{shortest, isCandidate, candidates}
+use Rattle.filter_plan.specs.Plan.{hitOrder, isLikely, isHit}
+use Rattle.filter_plan.proofs.More.{select-none, length-select, howMany-le, howMany-all}
+use Rattle.filter_plan.proofs.HitOrder.{good-number, hitOrder-lt, length-hitOrder, lastHits-order}
+use Rattle.filter_plan.proofs.Checks.{shortest-positive, shortest-own, hit-likely, likely-candidate}
+use Rattle.filter_plan.proofs.Candidates.{candidates-order}
+use Rattle.filter_tables.specs.Tables.{ranked, Ranks}
+use Rattle.filter_tables.proofs.Lookup.{bits-ranks, ranks-order}
+use Rattle.filter_windows.specs.Looks.{SetOf}
+use Rattle.filter_search.specs.Search.{isMarked, LikelyMarked, MarkedIf, candidatesBelow}
+
+-- ---- ranks
+
+good-count : (ps : PatternSet) → T (goodSet ps) → length ps ≤ 64
+unfolding goodSet
+good-count ps g =
+    leb→le (length ps) 64 (and-split (leb (length ps) 64) (leb (length (flatten ps)) 4096) (and-split (leb (length ps) 64 && leb (length (flatten ps)) 4096) (all goodPattern ps) g .0) .0)
+
+map-ext : {A B : Type 0} (f g : A → B) (xs : List A) → ((a : A) → List·Memᴰ a xs → f a ≡ g a) → map f xs ≡ map g xs
+map-ext f g [] h = refl
+map-ext {A} {B} f g (x ∷ xs) h = ap₂ (λ (y : B) (ys : List B). y ∷ ys) (h x (List·Memᴰ·head refl)) (map-ext f g xs (λ a m. h a (List·Memᴰ·tail m)))
+
+map-map : {A B C : Type 0} (f : A → B) (g : B → C) (xs : List A) → map g (map f xs) ≡ map (λ a. g (f a)) xs
+map-map f g [] = refl
+map-map {A} {B} {C} f g (x ∷ xs) = ap (λ (ys : List C). g (f x) ∷ ys) (map-map f g xs)
+
+-- the members of a set by rank are the patterns that pass, in the order of the hits
+rank-select : (ps : PatternSet) (test : List ℕ → Bool) (set : ℕ) → T (goodSet ps) → SetOf ps test set → select (λ j. test (getD ps j [])) (hitOrder ps) ≡ map (λ r. getD (hitOrder ps) r 0) (bits set)
+rank-select ps test set g s = sym (ap (map (λ r. getD (hitOrder ps) r 0)) (bits-ranks ps set test (good-count ps g) s) ∙ ranks-order ps test g)
+
+-- ---- candidates
+
+candidates-size : (ps : PatternSet) (b : ℕ) (text : List ℤ) (set : ℕ) → T (goodSet ps) → SetOf ps (isCandidate b text) set → length (bits set) ≡ length (select (isCandidate b text) ps)
+candidates-size ps b text set g s =
+    sym (length-map (bits set) (λ r. getD (hitOrder ps) r 0))
+    ∙ sym (ap length (rank-select ps (isCandidate b text) set g s))
+    ∙ sym (candidates-order b ps text g)
+
+-- one place more
+pub candidates-next : (ps : PatternSet) (text : List ℤ) (p set : ℕ) → T (goodSet ps) → SetOf ps (isCandidate (shortest 17 ps) (take (suc p) text)) set → candidatesBelow ps text (suc p) ≡ candidatesBelow ps text p + length (bits set)
+candidates-next ps text p set g s =
+    let f : ℕ → List (List ℕ) = λ q. select (isCandidate (shortest 17 ps) (take (suc q) text)) ps in
+    ap length (flatten-tabulate p f) ∙ length-append (flatten (tabulate p f)) (f p) ∙ ap (λ (n : ℕ). candidatesBelow ps text p + n) (sym (candidates-size ps (shortest 17 ps) (take (suc p) text) set g s))
+
+pub candidates-none : (ps : PatternSet) (text : List ℤ) → 0 ≡ candidatesBelow ps text 0
+unfolding flatten tabulate
+candidates-none ps text = refl
+
+pub candidates-all : (ps : PatternSet) (text : List ℤ) (n : ℕ) → n ≡ length text → candidatesBelow ps text n ≡ candidates ps text
+unfolding candidates
+candidates-all ps text n e = rw e refl
+
+-- where there is no candidate, no pattern is likely
+none-likely : (ps : PatternSet) (text : List ℤ) (r : ℕ) → T (goodSet ps) → SetOf ps (isCandidate (shortest 17 ps) text) 0 → r < length ps → T (isLikely text (ranked ps r)) → ⊥
+none-likely ps text r g s h t =
+    let l = hitOrder-lt ps r (omega (arith, length-hitOrder ps g)) in
+    let c = likely-candidate (shortest 17 ps) text (ranked ps r) (shortest-positive 17 ps g (omega arith)) (shortest-own ps (ranked ps r) (getD-mem ps (getD (hitOrder ps) r 0) [] l)) t in
+    subst T (sym (s r (omega (arith, good-count ps g))) ∙ bitAt-none r) (and-join (ltb r (length ps)) (isCandidate (shortest 17 ps) text (ranked ps r)) (T-true (ltb r (length ps)) (lt-ltb r (length ps) h)) c)
+
+-- ---- marks
+
+module _ (ps : PatternSet) (text : List ℤ) (marks : List ℕ) (p : ℕ) (good : T (goodSet ps)) (before : LikelyMarked ps text marks p) where
+  -- a place without candidates
+  pub marks-pass : SetOf ps (isCandidate (shortest 17 ps) (take (suc p) text)) 0 → LikelyMarked ps text marks (p + 1)
+  marks-pass s q h r k t = go (decLt q p)
+    where
+      go : Dec (q < p) → T (isMarked marks (q / 32))
+      go (yes l) = before q l r k t
+      go (no f) = let e : q ≡ p = omega arith in absurd (none-likely ps (take (suc p) text) r good s k (subst (λ (n : ℕ). T (isLikely (take (suc n) text) (ranked ps r))) e t))
+
+  -- a place that was looked at
+  pub marks-next : (after : List ℕ) (likely : ℕ) → SetOf ps (isLikely (take (suc p) text)) likely → MarkedIf marks after p likely → LikelyMarked ps text after (p + 1)
+  marks-next after likely s m q h r k t = go (decLt q p)
+    where
+      go : Dec (q < p) → T (isMarked after (q / 32))
+      go (yes l) = m .kept (q / 32) (before q l r k t)
+      go (no f) =
+          let e : q ≡ p = omega arith in
+          let l : r < 64 = omega (arith, good-count ps good) in
+          rw e (m .marked r l (subst T (sym (s r l)) (and-join (ltb r (length ps)) (isLikely (take (suc p) text) (ranked ps r)) (T-true (ltb r (length ps)) (lt-ltb r (length ps) k)) (subst (λ (n : ℕ). T (isLikely (take (suc n) text) (ranked ps r))) e t))))
+
+-- ---- hits
+
+-- the hits of a place, from the set of their ranks
+pub hits-by-rank : (ps : PatternSet) (text : List ℤ) (p : ℕ) (numbers : List ℕ) (found : ℕ) → T (goodSet ps) → Ranks ps numbers → SetOf ps (isHit (take (suc p) text)) found → map (λ r. (p, getD numbers r 0)) (bits found) ≡ hitsAt ps text p
+unfolding hitsAt
+hits-by-rank ps text p numbers found g n s =
+    let t = take (suc p) text in
+    sym (ap (map (λ j. (p, j))) (lastHits-order ps t g ∙ rank-select ps (isHit t) found g s)
+    ∙ map-map (λ r. getD (hitOrder ps) r 0) (λ j. (p, j)) (bits found)
+    ∙ map-ext (λ r. (p, getD (hitOrder ps) r 0)) (λ r. (p, getD numbers r 0)) (bits found)
+    (λ r m. ap (λ (j : ℕ). (p, j)) (sym (n r (below r (mem-bits found r .0 m))))))
+  where
+    below : (r : ℕ) → (r < 64) × T (bitAt found r) → r < length ps
+    below r b = ltb-true r (length ps) (true-T (ltb r (length ps)) (and-split (ltb r (length ps)) (isHit (take (suc p) text) (ranked ps r)) (subst T (s r (b .0)) (b .1)) .0))
+
+pub hits-size : (ps : PatternSet) (text : List ℤ) (p : ℕ) (numbers : List ℕ) (found : ℕ) → T (goodSet ps) → Ranks ps numbers → SetOf ps (isHit (take (suc p) text)) found → length (bits found) ≡ length (hitsAt ps text p)
+hits-size ps text p numbers found g n s =
+    sym (length-map {B = ℕ × ℕ} (bits found) (λ r. (p, getD numbers r 0))) ∙ ap length (hits-by-rank ps text p numbers found g n s)
+
+-- no place has more hits than there are patterns
+pub hitsAt-le : (ps : PatternSet) (text : List ℤ) (p : ℕ) → T (goodSet ps) → length (hitsAt ps text p) ≤ 64
+unfolding hitsAt
+hitsAt-le ps text p g =
+    let t = take (suc p) text in
+    rw (length-map {B = ℕ × ℕ} (lastHits ps t) (λ j. (p, j)), lastHits-order ps t g, length-select (λ j. isHit t (getD ps j [])) (hitOrder ps))
+    (omega (arith, howMany-le (λ j. isHit t (getD ps j [])) (λ x. true) (hitOrder ps) (λ a k u. tt), howMany-all (hitOrder ps), length-hitOrder ps g, good-count ps g))
+
+-- a place at which no pattern is likely has no hit
+pub none-hit : (ps : PatternSet) (text : List ℤ) (p : ℕ) → T (goodSet ps) → ((r : ℕ) → r < length ps → T (isLikely (take (suc p) text) (ranked ps r)) → ⊥) → hitsAt ps text p ≡ []
+unfolding hitsAt
+none-hit ps text p g none =
+    let t = take (suc p) text in
+    ap (map (λ j. (p, j))) (lastHits-order ps t g ∙ select-none (λ j. isHit t (getD ps j [])) (hitOrder ps)
+    (λ j m h. let w = mem-getD (hitOrder ps) j 0 m in
+    let k : w .0 < length ps = omega (arith, w .1, length-hitOrder ps g) in
+    let h' : T (isHit t (ranked ps (w .0))) = subst (λ (i : ℕ). T (isHit t (getD ps i []))) (sym (w .2)) h in
+    none (w .0) k (hit-likely t (ranked ps (w .0)) (good-number ps (getD (hitOrder ps) (w .0) 0) g (hitOrder-lt ps (w .0) (w .1)) .2) h')))

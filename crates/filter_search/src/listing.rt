@@ -1,0 +1,196 @@
+// The second pass, over the marked blocks only: it counts the hits, or writes them.
+ghost use mathlib.Core.Path.{_≡_};
+ghost use Prim.Native.Nat.{_+_, _-_, _*_, _≤_, _<_, min};
+ghost use lib.ListN.{length};
+ghost use lib.Seq.{sets};
+ghost use Rattle.bit_sets.specs.BitSets.{bits};
+ghost use Rattle.set_access.specs.Patterns.{patternsOf, Good};
+ghost use Rattle.matching.specs.Hits.{hits, hitWords};
+ghost use Rattle.filter_windows.specs.Looks.{OwnTables, CheckTables};
+ghost use Rattle.filter_search.specs.Search.{LikelyMarked, isMarked, hitsFrom, rankWords};
+
+// Whether the block is marked.
+fn is_marked(marks: &[u64; 512], block: usize) -> bool
+    requires { ⌜ block < 32768 ⌝ }
+    ensures { λ r. ⌜ r ≡ isMarked (now (marks .entry)) block ⌝ }
+{
+    bit_sets::has(marks[block / 64], block % 64)
+}
+
+// The place behind the last one of the block that begins at the place first, in a text of n values.
+fn block_end(first: usize, n: usize) -> usize
+    requires { ⌜ first < 1048576 ⌝ }
+    ensures { λ r. ⌜ r ≡ min n (first + 32) ⌝ }
+{
+    if first + 32 < n { first + 32 } else { n }
+}
+
+// How many hits the places from first to end have.
+fn count_block(
+    set: &[u32],
+    text: &[i32],
+    first: usize,
+    end: usize,
+    lower: &[u64; 256],
+    high: &[u64; 256],
+    fits: &[u64; 256],
+    numbers: &[u32; 64],
+    parents: &[u32],
+) -> usize
+    requires { ⌜ Good (now set) ⌝ }
+    requires { ⌜ (first ≤ end) × (end ≤ length (now text)) × (length (now text) ≤ 1048576) ⌝ }
+    requires { ⌜ OwnTables (patternsOf (now set)) (now lower) (now high) (now fits) ⌝ }
+    requires { ⌜ CheckTables (patternsOf (now set)) (now numbers) (now parents) ⌝ }
+    ensures { λ r. ⌜ r ≡ length (hitsFrom (patternsOf (now (set .entry))) (now (text .entry)) first (end - first)) ⌝ }
+{
+    let mut own = filter_windows::key_before(text, first);
+    let mut count = 0;
+    let mut p = first;
+    while p < end {
+        own = filter_windows::roll(own, filter_windows::new_bit(text, p), 17);
+        let found = filter_windows::hits_at(set, text, p, own, lower, high, fits, numbers, parents);
+        count += bit_sets::size(found);
+        p += 1;
+    }
+    count
+}
+
+// How many hits the text has.
+pub(crate) fn count_hits(
+    set: &[u32],
+    text: &[i32],
+    marks: &[u64; 512],
+    lower: &[u64; 256],
+    high: &[u64; 256],
+    fits: &[u64; 256],
+    numbers: &[u32; 64],
+    parents: &[u32],
+) -> usize
+    requires { ⌜ Good (now set) ⌝ }
+    requires { ⌜ length (now text) ≤ 1048576 ⌝ }
+    requires { ⌜ LikelyMarked (patternsOf (now set)) (now text) (now marks) (length (now text)) ⌝ }
+    requires { ⌜ OwnTables (patternsOf (now set)) (now lower) (now high) (now fits) ⌝ }
+    requires { ⌜ CheckTables (patternsOf (now set)) (now numbers) (now parents) ⌝ }
+    ensures { λ r. ⌜ r ≡ length (hits (patternsOf (now (set .entry))) (now (text .entry))) ⌝ }
+{
+    let n = text.len();
+    let mut count = 0;
+    let mut first = 0;
+    let mut block = 0;
+    while first < n {
+        if is_marked(marks, block) {
+            count += count_block(
+                set,
+                text,
+                first,
+                block_end(first, n),
+                lower,
+                high,
+                fits,
+                numbers,
+                parents,
+            );
+        }
+        first += 32;
+        block += 1;
+    }
+    count
+}
+
+// Writes the hits of a set of ranks at place p, from the word at on; tells the word behind them.
+fn write_place(numbers: &[u32; 64], found: u64, p: usize, out: &mut [u32], at: usize) -> usize
+    requires { ⌜ (p < 1048576) × (at + 2 * length (bits found) ≤ length (now out)) ⌝ }
+    ensures { λ r. ⌜ r ≡ at + 2 * length (bits found) ⌝ }
+    ensures { λ _. ⌜ now (out .exit) ≡ sets (now (out .entry)) at (rankWords (now (numbers .entry)) p (bits found)) ⌝ }
+{
+    let mut rest = found;
+    let mut to = at;
+    while rest != 0 {
+        let r = bit_sets::lowest(rest);
+        out[to] = p as u32;
+        out[to + 1] = numbers[r];
+        rest = bit_sets::without_lowest(rest);
+        to += 2;
+    }
+    to
+}
+
+// Writes the hits of the places from first to end, from the word at on; tells the word behind them.
+fn write_block(
+    set: &[u32],
+    text: &[i32],
+    first: usize,
+    end: usize,
+    lower: &[u64; 256],
+    high: &[u64; 256],
+    fits: &[u64; 256],
+    numbers: &[u32; 64],
+    parents: &[u32],
+    out: &mut [u32],
+    at: usize,
+) -> usize
+    requires { ⌜ Good (now set) ⌝ }
+    requires { ⌜ (first ≤ end) × (end ≤ length (now text)) × (length (now text) ≤ 1048576) ⌝ }
+    requires { ⌜ OwnTables (patternsOf (now set)) (now lower) (now high) (now fits) ⌝ }
+    requires { ⌜ CheckTables (patternsOf (now set)) (now numbers) (now parents) ⌝ }
+    requires { ⌜ at + 2 * length (hitsFrom (patternsOf (now set)) (now text) first (end - first)) ≤ length (now out) ⌝ }
+    ensures { λ r. ⌜ r ≡ at + 2 * length (hitsFrom (patternsOf (now (set .entry))) (now (text .entry)) first (end - first)) ⌝ }
+    ensures { λ _. ⌜ now (out .exit) ≡ sets (now (out .entry)) at (hitWords (hitsFrom (patternsOf (now (set .entry))) (now (text .entry)) first (end - first))) ⌝ }
+{
+    let mut own = filter_windows::key_before(text, first);
+    let mut to = at;
+    let mut p = first;
+    while p < end {
+        own = filter_windows::roll(own, filter_windows::new_bit(text, p), 17);
+        let found = filter_windows::hits_at(set, text, p, own, lower, high, fits, numbers, parents);
+        to = write_place(numbers, found, p, out, to);
+        p += 1;
+    }
+    to
+}
+
+// Writes the hits of the text to the front of the array, which is long enough; tells how many words they are.
+pub(crate) fn write_hits(
+    set: &[u32],
+    text: &[i32],
+    marks: &[u64; 512],
+    lower: &[u64; 256],
+    high: &[u64; 256],
+    fits: &[u64; 256],
+    numbers: &[u32; 64],
+    parents: &[u32],
+    out: &mut [u32],
+) -> usize
+    requires { ⌜ Good (now set) ⌝ }
+    requires { ⌜ length (now text) ≤ 1048576 ⌝ }
+    requires { ⌜ LikelyMarked (patternsOf (now set)) (now text) (now marks) (length (now text)) ⌝ }
+    requires { ⌜ OwnTables (patternsOf (now set)) (now lower) (now high) (now fits) × CheckTables (patternsOf (now set)) (now numbers) (now parents) ⌝ }
+    requires { ⌜ 2 * length (hits (patternsOf (now set)) (now text)) ≤ length (now out) ⌝ }
+    ensures { λ r. ⌜ r ≡ 2 * length (hits (patternsOf (now (set .entry))) (now (text .entry))) ⌝ }
+    ensures { λ _. ⌜ now (out .exit) ≡ sets (now (out .entry)) 0 (hitWords (hits (patternsOf (now (set .entry))) (now (text .entry)))) ⌝ }
+{
+    let n = text.len();
+    let mut to = 0;
+    let mut first = 0;
+    let mut block = 0;
+    while first < n {
+        if is_marked(marks, block) {
+            to = write_block(
+                set,
+                text,
+                first,
+                block_end(first, n),
+                lower,
+                high,
+                fits,
+                numbers,
+                parents,
+                out,
+                to,
+            );
+        }
+        first += 32;
+        block += 1;
+    }
+    to
+}

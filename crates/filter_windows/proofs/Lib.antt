@@ -1,0 +1,5 @@
+-- The root of the crate's laws.
+pub mod Rolling
+pub mod Lookups
+pub mod RankSets
+pub mod Windows

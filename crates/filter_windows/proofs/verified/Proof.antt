@@ -1,0 +1,112 @@
+-- The loop takes the likely ranks one by one, lowest first; what is found are those that it has taken and that passed the check.
+use mathlib.Core.Path.{_≡_, sym, _∙_, ap, subst}
+use mathlib.Core.Logic.{⊎-elim}
+use mathlib.Core.Bool.{Bool}
+use mathlib.Core.List.{[]}
+use Prim.Native.Nat.{ℕ, suc, _<_, _≤_}
+use lib.ListN.{length, getD, take}
+use lib.Seq.{length-take-le}
+use Rattle.set_access.specs.Patterns.{patternsOf}
+use Rattle.set_access.proofs.Laws.{good-set}
+use Rattle.bit_sets.specs.BitSets.{bitAt}
+use Rattle.filter_plan.specs.Plan.{hitOrder, isHit}
+use Rattle.filter_tables.specs.Tables.{ranked}
+use Rattle.filter_windows.proofs.RankSets.{Found, found-none, found-yes, found-no, found-all, lowest-in, likely-rank}
+use borrow.Author.Needs.{needs}
+use Rattle.filter_windows.proofs.verified.Statement.{statement}
+use Rattle.filter_windows.proofs.verified.Tie as tie
+
+abbrev Inv-loop : tie.InvT-loop
+Inv-loop set text p likely numbers parents rest₀ found₀ rest found = Found likely rest found (λ r. isHit (take (suc p) text) (ranked (patternsOf set) r))
+
+abbrev μ-loop : tie.MeasureT-loop
+μ-loop set text p likely numbers parents rest₀ found₀ rest found = rest
+
+-- the rank taken is that of a pattern whose window lies within the text
+rank : (c : tie.After-lowest Inv-loop μ-loop) → (c .lowest .result < length (patternsOf (c .before .before .before .before .before .args .set .now))) × (getD (hitOrder (patternsOf (c .before .before .before .before .before .args .set .now))) (c .lowest .result) 0 < length (patternsOf (c .before .before .before .before .before .args .set .now))) × (length (ranked (patternsOf (c .before .before .before .before .before .args .set .now)) (c .lowest .result)) ≤ suc (c .before .before .before .before .before .args .p))
+rank c =
+    let s = c .before .before .before .before .before in
+    let a = s .args in
+    let L = c .before .before .loop in
+    let l = c .lowest .ensures in
+    let k = likely-rank (patternsOf (a .set .now)) (take (suc (a .p)) (a .text .now)) (a .likely) (c .lowest .result) (good-set (a .set .now) (s .pre .0)) (s .pre .1 .1 .0) (l .0) (L .inv (c .lowest .result) (l .0) .1 (lowest-in (L .rest) (c .lowest .result) (l .1))) in
+    (k .0, k .1, subst (λ (n : ℕ). length (ranked (patternsOf (a .set .now)) (c .lowest .result)) ≤ n) (length-take-le (suc (a .p)) (a .text .now) (s .pre .1 .0)) (k .2))
+
+-- its number is the one that the table has
+number : (c : tie.After-wide Inv-loop μ-loop) → c .wide .result ≡ getD (hitOrder (patternsOf (c .before .before .before .before .before .before .before .args .set .now))) (c .before .before .lowest .result) 0
+number c =
+    let s = c .before .before .before .before .before .before .before in
+    c .wide .ensures ∙ s .pre .1 .1 .1 .ranks (c .before .before .lowest .result) (rank (c .before .before) .0)
+
+loop-holds : tie.Need-loop-holds Inv-loop μ-loop
+loop-holds c = found-none (c .before .before .args .likely) _
+
+lowest-requires : tie.Need-lowest-requires Inv-loop μ-loop
+lowest-requires c κs = search needs
+
+mul-wide : tie.Need-mul-wide Inv-loop μ-loop
+mul-wide c = search needs
+
+element-copy-out-wide : tie.Need-element-copy-out-wide Inv-loop μ-loop
+element-copy-out-wide c = search needs
+
+wide-requires : tie.Need-wide-requires Inv-loop μ-loop
+wide-requires c κs = search needs
+
+has-hit-requires : tie.Need-has-hit-requires Inv-loop μ-loop
+has-hit-requires c κs =
+    let s = c .before .before .before .before .before .before .before in
+    let k = rank (c .before .before) in
+    let e = sym (number c) in
+    (s .pre .0, ((s .pre .1 .0, subst (λ (n : ℕ). n < length (patternsOf (s .args .set .now))) e (k .1), subst (λ (n : ℕ). length (getD (patternsOf (s .args .set .now)) n []) ≤ suc (s .args .p)) e (k .2)), s .pre .1 .1 .1 .parentLists))
+
+with-bit-requires : tie.Need-with-bit-requires Inv-loop μ-loop
+with-bit-requires c κs = search needs
+
+without-lowest-requires : tie.Need-without-lowest-requires Inv-loop μ-loop
+without-lowest-requires c κs = search needs
+
+loop-less : tie.Need-loop-less Inv-loop μ-loop
+loop-less c = search needs
+
+loop-again : tie.Need-loop-again Inv-loop μ-loop
+loop-again c =
+    let h = c .before .before in
+    let s = h .before .before .before .before .before .before .before .before in
+    let a = s .args in
+    let L = h .before .before .before .before .before .loop in
+    let lower = h .before .before .before .lowest in
+    let r = lower .result in
+    let hit : ℕ → Bool = λ r. isHit (take (suc (a .p)) (a .text .now)) (ranked (patternsOf (a .set .now)) r) in
+    let e : hit r ≡ h .has-hit .result = sym (h .has-hit .ensures ∙ ap (λ (n : ℕ). isHit (take (suc (a .p)) (a .text .now)) (getD (patternsOf (a .set .now)) n [])) (number (h .before))) in
+    ⊎-elim
+    (λ w. found-yes (a .likely) (L .rest) (c .without-lowest .result) (L .found) (c .before .if1 .found) r hit (L .inv) (lower .ensures .1) (c .without-lowest .ensures .0) (e ∙ w .0 .taken)
+    (λ j l. ap (λ (x : ℕ). bitAt x j) (w .2) ∙ w .1 .ensures j l))
+    (λ w. found-no (a .likely) (L .rest) (c .without-lowest .result) (L .found) (c .before .if1 .found) r hit (L .inv) (lower .ensures .1) (c .without-lowest .ensures .0) (e ∙ w .0 .left) (w .1))
+    (c .before .if1 .came)
+
+returns : tie.Need-returns Inv-loop μ-loop
+returns c =
+    let s = c .before .before .before .before in
+    let a = s .args in
+    let L = c .before .loop in
+    found-all (patternsOf (a .set .now)) (take (suc (a .p)) (a .text .now)) (a .likely) (L .found) (good-set (a .set .now) (s .pre .0)) (s .pre .1 .1 .0)
+    (subst (λ (n : ℕ). Found (a .likely) n (L .found) (λ r. isHit (take (suc (a .p)) (a .text .now)) (ranked (patternsOf (a .set .now)) r))) (c .loop-test .left) (L .inv))
+
+pub verified-spec : {M : Type 1} → statement M
+verified-spec =
+    tie.close
+    (tie.spec
+    Inv-loop
+    μ-loop
+    loop-holds
+    lowest-requires
+    mul-wide
+    element-copy-out-wide
+    wide-requires
+    has-hit-requires
+    with-bit-requires
+    without-lowest-requires
+    loop-less
+    loop-again
+    returns)

@@ -1,0 +1,116 @@
+-- THE ANSWER of a stream search, for each way through the entry: the first refusal that is met, and else what the call does.
+use mathlib.Core.Path.{_≡_, refl, sym, _∙_, ap, ap₂}
+use mathlib.Core.Bool.{Bool, true, false, cond, not, _&&_}
+use mathlib.Core.List.{List, [], _∷_, _++_}
+use Prim.Native.Nat.{ℕ, zero, suc, _+_, _*_, _≤_, _<_}
+use borrow.Author.Tests.{lt-ltb, le-ltb}
+use lib.Dec.{T, leb, ltb, leb→le, ltb→lt}
+use lib.IntN.{ℤ}
+use lib.ListN.{length, drop}
+use Rattle.lists.specs.Prelude.{begins}
+use Rattle.lists.proofs.Order.{T-true, true-T}
+use Rattle.lists.proofs.Lists.{and-split}
+use Rattle.answers.specs.declared.SearchState.{SearchState}
+use Rattle.pattern_set.specs.PatternSet.{PatternSet, readSet}
+use Rattle.matching.specs.Hits.{hitWords}
+use Rattle.model.specs.Refusals.{firstMet, unless, told, after}
+use Rattle.model.specs.SetEntries.{isBroken, setOf, isUnsearchable}
+use Rattle.model.specs.Nodes.{nodes, headOf}
+use Rattle.model.specs.AutomatonWords.{automatonWords}
+use Rattle.model.specs.State.{goodMinima, goodState}
+use Rattle.model.specs.Step.{Called, call}
+use Rattle.model.specs.SearchEntries.{Counts, streamConditions, streamEntry, streamState}
+use Rattle.model.proofs.Refusals.{met, unmet, leave}
+use Rattle.set_arrays.proofs.Checked.{broken-searchable, empty-unsearchable, filled-searchable}
+use Rattle.stream_step.proofs.More.{length-hitWords}
+use Rattle.stream_call.specs.declared.Taken.{Taken}
+use Rattle.stream_call.specs.Taken.{IsTaken}
+
+-- what is known of an accepted state
+pub record Accepted (ps : PatternSet) (st : SearchState) : Type 0 where
+  pub node : st .node < length (nodes ps)
+  pub taken : st .taken ≤ 1048576
+  pub minima : goodMinima st ≡ true
+
+pub accepted : (ps : PatternSet) (st : SearchState) → goodState ps st ≡ true → Accepted ps st
+unfolding goodState
+accepted ps st e =
+    let node = ltb (st .node) (length (nodes ps)) in
+    let deep = leb (length (headOf ps (st .node))) (st .taken) in
+    let few = leb (st .taken) 1048576 in
+    let a = and-split (node && deep && few) (goodMinima st) (T-true (goodState ps st) e) in
+    let b = and-split (node && deep) few (a .0) in
+    let c = and-split node deep (b .0) in
+    record { node = ltb→lt (st .node) (length (nodes ps)) (c .0); taken = leb→le (st .taken) 1048576 (b .1); minima = true-T (goodMinima st) (a .1) }
+
+module _ (ws automaton : List ℕ) (st : SearchState) (xs : List ℤ) (out : List ℕ) where
+  abbrev ps : PatternSet
+  ps = setOf (readSet ws)
+
+  -- a call that tells this, hands back this state and leaves this array does what the entry promises
+  abbrev pub Answers : ℕ × Counts → SearchState → List ℕ → Type 0
+  Answers tells state array =
+      (tells ≡ told (0, 0, 0, 0) (streamEntry ws automaton st xs out)) × (state ≡ streamState ws automaton st xs out) × (array ≡ after (streamEntry ws automaton st xs out) out)
+
+  abbrev refusal : ℕ
+  refusal = firstMet (streamConditions ws automaton st xs out)
+
+  -- what is told by the number of the refusal
+  abbrev tells : ℕ → Called SearchState → ℕ × Counts
+  tells n c = (n, unless n (c .ended, c .taken, length (c .hits), c .attempts) (0, 0, 0, 0))
+
+  -- ---- refused
+
+  refused : (r : ℕ) → refusal ≡ suc r → Answers (suc r, (0, 0, 0, 0)) st out
+  refused r e =
+      let c = call ps st (length out) xs in (
+        sym (ap (λ (n : ℕ). tells n c) e),
+        sym (ap (λ (n : ℕ). unless n (c .state) st) e),
+        sym (ap (λ (n : ℕ). leave n (hitWords (c .hits)) out) e),
+      )
+
+  abbrev seven : List (ℕ × Bool)
+  seven = (7, not (begins automaton (automatonWords ps))) ∷ (8, not (goodState ps st)) ∷ (9, ltb 1048576 (st .taken + length xs)) ∷ (10, ltb (length out) (2 * length ps)) ∷ []
+
+  whole : refusal ≡ firstMet ((1, isUnsearchable (readSet ws)) ∷ (5, isBroken (readSet ws)) ∷ seven)
+  unfolding streamConditions
+  whole = refl
+
+  pub broken : isBroken (readSet ws) ≡ true → Answers (5, (0, 0, 0, 0)) st out
+  broken b = refused 4 (whole ∙ unmet 1 (isUnsearchable (readSet ws)) ((5, isBroken (readSet ws)) ∷ seven) (broken-searchable (readSet ws) b) ∙ met 5 (isBroken (readSet ws)) seven b)
+
+  pub empty : isBroken (readSet ws) ≡ false → length ps ≡ 0 → Answers (1, (0, 0, 0, 0)) st out
+  empty b z = refused 0 (whole ∙ met 1 (isUnsearchable (readSet ws)) ((5, isBroken (readSet ws)) ∷ seven) (empty-unsearchable (readSet ws) b z))
+
+  module _ (b : isBroken (readSet ws) ≡ false) (z : length ps ≡ 0 → ⊥) where
+    set-good : refusal ≡ firstMet seven
+    set-good = whole ∙ unmet 1 (isUnsearchable (readSet ws)) ((5, isBroken (readSet ws)) ∷ seven) (filled-searchable (readSet ws) b z) ∙ unmet 5 (isBroken (readSet ws)) seven b
+
+    pub other : begins automaton (automatonWords ps) ≡ false → Answers (7, (0, 0, 0, 0)) st out
+    other a = refused 6 (set-good ∙ (rw a refl))
+
+    pub state-bad : begins automaton (automatonWords ps) ≡ true → goodState ps st ≡ false → Answers (8, (0, 0, 0, 0)) st out
+    state-bad a g = refused 7 (set-good ∙ (rw (a, g) refl))
+
+    pub too-long : begins automaton (automatonWords ps) ≡ true → goodState ps st ≡ true → 1048576 < st .taken + length xs → Answers (9, (0, 0, 0, 0)) st out
+    too-long a g l = refused 8 (set-good ∙ (rw (a, g, lt-ltb 1048576 (st .taken + length xs) l) refl))
+
+    pub too-short : begins automaton (automatonWords ps) ≡ true → goodState ps st ≡ true → st .taken + length xs ≤ 1048576 → length out < 2 * length ps → Answers (10, (0, 0, 0, 0)) st out
+    too-short a g l h = refused 9 (set-good ∙ (rw (a, g, le-ltb 1048576 (st .taken + length xs) l, lt-ltb (length out) (2 * length ps) h) refl))
+
+    -- ---- accepted
+
+    pub answered : begins automaton (automatonWords ps) ≡ true → goodState ps st ≡ true → st .taken + length xs ≤ 1048576 → 2 * length ps ≤ length out
+        → (hits : List ℕ) (r : Taken) (answer : ℕ × Counts) → IsTaken ps st xs out hits r
+        → answer ≡ (0, (cond (leb (length xs) (r .counts .taken)) 1 0, r .counts .taken, r .counts .hits, r .counts .attempts))
+        → Answers answer (r .state) hits
+    answered a g l h hits r answer t e =
+        let c = call ps st (length out) xs in
+        let n : refusal ≡ 0 =
+        set-good ∙ (rw (a, g, le-ltb 1048576 (st .taken + length xs) l, le-ltb (length out) (2 * length ps) h) refl) in
+        let q : answer ≡ tells 0 c = e ∙ (λ i. (0, (sym (t .ended) i, t .taken i, t .hits i, t .attempts i))) in
+        let w : hits ≡ leave 0 (hitWords (c .hits)) out = t .words ∙ ap (λ (m : ℕ). hitWords (c .hits) ++ drop m out) (sym (length-hitWords (c .hits))) in (
+          q ∙ sym (ap (λ (m : ℕ). tells m c) n),
+          t .state ∙ sym (ap (λ (m : ℕ). unless m (c .state) st) n),
+          w ∙ sym (ap (λ (m : ℕ). leave m (hitWords (c .hits)) out) n),
+        )

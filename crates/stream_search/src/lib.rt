@@ -1,0 +1,102 @@
+// The entry of the stream search, and the check of a state that a caller hands in. Document 01: A ladder search; refusals 1 5 7 8 9 10.
+ghost use mathlib.Core.Path.{_≡_};
+ghost use mathlib.Core.Bool.{cond};
+ghost use Prim.Native.Nat.{_*_};
+ghost use lib.Dec.{leb};
+ghost use lib.ListN.{length};
+ghost use Rattle.answers.specs.Told.{number, toldStreamed};
+ghost use Rattle.pattern_set.specs.PatternSet.{readSet};
+ghost use Rattle.model.specs.Nodes.{nodes};
+ghost use Rattle.model.specs.SetEntries.{setOf};
+ghost use Rattle.model.specs.State.{goodState};
+ghost use Rattle.model.specs.Refusals.{told, after};
+ghost use Rattle.model.specs.SearchEntries.{streamEntry, streamState};
+ghost use Rattle.automaton_lookup.specs.Made.{Made};
+use answers::Counts;
+use answers::Refusal;
+use answers::SearchState;
+use answers::SetSize;
+use answers::StreamAnswer;
+use answers::Streamed;
+
+// Is the state one that a search may go on from: its node is in the automaton and not deeper than the values taken, these are not too many, and its open minima are good.
+fn state_is_good(set: &[u32], words: &[u32], k: usize, count: usize, state: SearchState) -> bool
+    requires { ⌜ Made (now set) (now words) count ⌝ }
+    requires { ⌜ (k ≡ length (setOf (readSet (now set)))) × (count ≡ length (nodes (setOf (readSet (now set))))) ⌝ }
+    ensures { λ r. ⌜ r ≡ goodState (setOf (readSet (now (set .entry)))) state ⌝ }
+{
+    let node = state.node as usize;
+    let taken = state.taken;
+    if node >= count {
+        return false;
+    }
+    if automaton_lookup::depth(set, words, k, count, node) > taken as usize {
+        return false;
+    }
+    if taken > 1048576 {
+        return false;
+    }
+    let places = state.places;
+    let values = state.values;
+    open_minima::minima_are_good(&places, &values, state.first, state.minima, taken)
+}
+
+// The answer of the values of a call, of which there are n.
+fn answer_of(counts: Counts, n: usize) -> StreamAnswer
+    ensures { λ r. ⌜ toldStreamed r ≡ (0, (cond (leb n (counts .taken)) 1 0, counts .taken, counts .hits, counts .attempts)) ⌝ }
+{
+    if n <= counts.taken {
+        return StreamAnswer::Ended(counts);
+    }
+    StreamAnswer::Full(counts)
+}
+
+// A refused call hands the state back.
+fn refused(given: SearchState, r: Refusal) -> Streamed
+    ensures { λ s. ⌜ (s .state ≡ given) × (toldStreamed (s .answer) ≡ (number r, (0, 0, 0, 0))) ⌝ }
+{
+    Streamed {
+        state: given,
+        answer: StreamAnswer::Refused(r),
+    }
+}
+
+// Searches on from a state: takes the values, writes the hits that end at them, and hands the state back.
+pub fn stream_search(
+    set: &[u32],
+    automaton: &[u32],
+    state: SearchState,
+    values: &[i32],
+    hits: &mut [u32],
+) -> Streamed
+    ensures { λ r. ⌜ toldStreamed (r .answer) ≡ told (0, 0, 0, 0) (streamEntry (now (set .entry)) (now (automaton .entry)) state (now (values .entry)) (now (hits .entry))) ⌝ }
+    ensures { λ r. ⌜ r .state ≡ streamState (now (set .entry)) (now (automaton .entry)) state (now (values .entry)) (now (hits .entry)) ⌝ }
+    ensures { λ _. ⌜ now (hits .exit) ≡ after (streamEntry (now (set .entry)) (now (automaton .entry)) state (now (values .entry)) (now (hits .entry))) (now (hits .entry)) ⌝ }
+{
+    let SetSize::Holds(k, _) = set_arrays::check_set(set) else {
+        return refused(state, Refusal::BrokenSet);
+    };
+    if k == 0 {
+        return refused(state, Refusal::Empty);
+    }
+    if !automaton::is_automaton(set, automaton) {
+        return refused(state, Refusal::OtherAutomaton);
+    }
+    let count = automaton_lookup::node_count(set, automaton, k, 0);
+    if !state_is_good(set, automaton, k, count, state) {
+        return refused(state, Refusal::BrokenState);
+    }
+    if values.len() > 1048576 - state.taken as usize {
+        return refused(state, Refusal::TextTooLong);
+    }
+    if hits.len() < 2 * k {
+        return refused(state, Refusal::ArrayTooShort);
+    }
+    let taken = stream_call::take_values(set, automaton, k, count, state, values, hits);
+    let next = taken.state;
+    let counts = taken.counts;
+    Streamed {
+        state: next,
+        answer: answer_of(counts, values.len()),
+    }
+}

@@ -1,0 +1,55 @@
+-- `held_until` is safe and ends.
+use lib.ListN.{length}
+use Prim.Native.Nat.{_≤_, _-_}
+use borrow.Author.Needs.{needs}
+use Rattle.test_inputs.proofs.arrays.held_until.Statement.{statement}
+use Rattle.test_inputs.proofs.arrays.held_until.Tie as tie
+
+abbrev Inv-loop : tie.InvT-loop
+Inv-loop a from v i₀ i = i ≤ length a
+
+abbrev μ-loop : tie.MeasureT-loop
+μ-loop a from v i₀ i = length a - i
+
+smaller-requires : tie.Need-smaller-requires Inv-loop μ-loop
+smaller-requires c κs = search needs
+
+loop-holds : tie.Need-loop-holds Inv-loop μ-loop
+loop-holds c = search needs
+
+mul-if1 : tie.Need-mul-if1 Inv-loop μ-loop
+mul-if1 c = search needs
+
+shared-slice-read-if1 : tie.Need-shared-slice-read-if1 Inv-loop μ-loop
+shared-slice-read-if1 c = search needs
+
+returns : tie.Need-returns Inv-loop μ-loop
+returns c = search needs
+
+add-i : tie.Need-add-i Inv-loop μ-loop
+add-i c = search needs
+
+loop-less : tie.Need-loop-less Inv-loop μ-loop
+loop-less c = search needs
+
+loop-again : tie.Need-loop-again Inv-loop μ-loop
+loop-again c = search needs
+
+returns-2 : tie.Need-returns-2 Inv-loop μ-loop
+returns-2 c = search needs
+
+pub held-until-spec : {M : Type 1} → statement M
+held-until-spec =
+    tie.close
+    (tie.spec
+    Inv-loop
+    μ-loop
+    smaller-requires
+    loop-holds
+    mul-if1
+    shared-slice-read-if1
+    returns
+    add-i
+    loop-less
+    loop-again
+    returns-2)

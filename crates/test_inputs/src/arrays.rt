@@ -1,0 +1,102 @@
+// Reading and comparing arrays.
+ghost use mathlib.Core.Path.{_≡_};
+ghost use Prim.Native.Nat.{_≤_, _<_};
+ghost use lib.ListN.{length};
+
+// The word at a place; 0 behind the end.
+pub fn number(s: &[u32], i: usize) -> usize
+    ensures { λ r. ⌜ r < 4294967296 ⌝ }
+{
+    if i < s.len() {
+        return wide(s[i]);
+    }
+    0
+}
+
+fn wide(x: u32) -> usize
+    ensures { λ r. ⌜ r < 4294967296 ⌝ }
+{
+    x as usize
+}
+
+// Puts a number to a place of an array, if it has that place.
+pub fn put(out: &mut [u32], i: usize, x: usize)
+    ensures { λ _. ⌜ length (now (out .exit)) ≡ length (now (out .entry)) ⌝ }
+{
+    if i < out.len() {
+        out[i] = narrow(x);
+    }
+}
+
+// A number as a word; 0 for one that is none.
+pub fn narrow(x: usize) -> u32
+    ensures { λ r. ⌜ r ≤ x ⌝ }
+{
+    if x > 4294967295 {
+        return 0;
+    }
+    x as u32
+}
+
+// The smaller one.
+pub fn smaller(a: usize, b: usize) -> usize
+    ensures { λ r. ⌜ (r ≤ a) × (r ≤ b) ⌝ }
+{
+    if a < b { a } else { b }
+}
+
+// How many words two arrays begin with alike.
+pub fn alike(a: &[u32], b: &[u32]) -> usize
+    ensures { λ r. ⌜ (r ≤ length (now (a .entry))) × (r ≤ length (now (b .entry))) ⌝ }
+{
+    let n = smaller(a.len(), b.len());
+    let mut i = 0;
+    while i < n {
+        if a[i] != b[i] {
+            return i;
+        }
+        i += 1;
+    }
+    i
+}
+
+// How many values two arrays begin with alike.
+pub fn alike_values(a: &[i32], b: &[i32]) -> usize
+    ensures { λ r. ⌜ (r ≤ length (now (a .entry))) × (r ≤ length (now (b .entry))) ⌝ }
+{
+    let n = smaller(a.len(), b.len());
+    let mut i = 0;
+    while i < n {
+        if a[i] != b[i] {
+            return i;
+        }
+        i += 1;
+    }
+    i
+}
+
+// The first place from the given one on that does not hold v; the length where there is none.
+pub fn held_until(a: &[u32], from: usize, v: u32) -> usize
+    ensures { λ r. ⌜ r ≤ length (now (a .entry)) ⌝ }
+{
+    let mut i = smaller(from, a.len());
+    while i < a.len() {
+        if a[i] != v {
+            return i;
+        }
+        i += 1;
+    }
+    i
+}
+
+// Puts v to every place of an array; tells how many there are.
+pub fn hold(out: &mut [u32], v: u32) -> usize
+    ensures { λ r. ⌜ r ≡ length (now (out .exit)) ⌝ }
+{
+    let mut i = 0;
+    while i < out.len() {
+        out[i] = v;
+        i += 1;
+    }
+    i
+}
