@@ -1,0 +1,24 @@
+-- `finder_stream_search` answers what the entry answers, as numbers, and hands back its state.
+use mathlib.Core.Path.{_∙_}
+use borrow.Author.Needs.{needs}
+use Rattle.finder_c.proofs.finder_stream_search.Statement.{statement}
+use Rattle.finder_c.proofs.finder_stream_search.Tie as tie
+
+stream-search-requires : tie.Need-stream-search-requires
+stream-search-requires c κs = search needs
+
+streamed-requires : tie.Need-streamed-requires
+streamed-requires c κs = search needs
+
+same-length : tie.Need-same-length
+same-length c = search needs
+
+returns : tie.Need-returns
+returns c =
+    let d = c .before .before .before .before .stream-search .ensures in
+    let w = c .streamed .ensures in
+    (w .0 ∙ d .0, (w .1 ∙ d .1 .0, d .1 .1))
+
+pub finder-stream-search-spec : {M : Type 1} → statement M
+finder-stream-search-spec =
+    tie.close (tie.spec stream-search-requires streamed-requires same-length returns)

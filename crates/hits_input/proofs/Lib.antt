@@ -1,0 +1,5 @@
+-- The root of the crate's laws.
+pub mod Cutting
+pub mod Numbers
+pub mod Lines
+pub mod Inputs

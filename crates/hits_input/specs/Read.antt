@@ -1,0 +1,21 @@
+-- What reading leaves in the lent arrays: the patterns' values one after the other, where each pattern ends among them, and the text.
+use Rattle.lists.specs.Prelude.{_≡_, Option, none, some, List, [], _∷_, flatten, ℕ, _+_, ℤ, length, take}
+use Rattle.hits_input.specs.declared.Parsed.{Parsed}
+use Rattle.hits_input.specs.Input.{Input, readInput}
+
+-- where each pattern ends, counted from n
+unfoldable pub ends : ℕ → List (List ℤ) → List ℕ
+ends n [] = []
+ends n (p ∷ ps) = (n + length p) ∷ ends (n + length p) ps
+
+-- the arrays begin with this input
+pub record Holds (i : Input) (values : List ℤ) (places : List ℕ) (text : List ℤ) (k n : ℕ) : Type 0 where
+  pub patterns : k ≡ length (i .patterns)
+  pub size : n ≡ length (i .text)
+  pub allValues : take (length (flatten (i .patterns))) values ≡ flatten (i .patterns)
+  pub allEnds : take k places ≡ ends 0 (i .patterns)
+  pub allText : take n text ≡ i .text
+
+abbrev pub IsRead : List ℕ → List ℤ → List ℕ → List ℤ → Parsed → Type 0
+IsRead bytes values places text Parsed.Bad = readInput bytes ≡ none
+IsRead bytes values places text (Parsed.Good k n) = (i : Input) × ((readInput bytes ≡ some i) × Holds i values places text k n)

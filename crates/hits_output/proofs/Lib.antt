@@ -1,0 +1,4 @@
+-- The root of the crate's laws.
+pub mod Digits
+pub mod Lines
+pub mod Words

@@ -1,0 +1,32 @@
+-- What the program `hits` prints of hits and numbers. Document 01: Program `hits`.
+use Rattle.lists.specs.Prelude.{cond, List, [], _∷_, _++_, map, flatten, tabulate, ℕ, zero, suc, _+_, _*_, _/_, _%_, ltb, length, getD}
+use Rattle.pattern_set.specs.PatternSet.{PatternSet}
+
+-- a number in decimal, of at most n + 1 digits
+unfoldable pub digitsWithin : ℕ → ℕ → List ℕ
+digitsWithin zero v = (48 + v % 10) ∷ []
+digitsWithin (suc n) v = cond (ltb v 10) ((48 + v) ∷ []) (digitsWithin n (v / 10) ++ ((48 + v % 10) ∷ []))
+
+-- a number in decimal
+abbrev pub digits : ℕ → List ℕ
+digits v = digitsWithin 19 v
+
+-- a line of three numbers
+abbrev pub line : ℕ → ℕ → ℕ → List ℕ
+line place number size = digits place ++ (32 ∷ digits number) ++ (32 ∷ digits size) ++ (10 ∷ [])
+
+-- the line of a hit: last place, pattern number, pattern length
+unfoldable pub hitLine : PatternSet → ℕ × ℕ → List ℕ
+hitLine ps h = line (h .0) (h .1) (length (getD ps (h .1) []))
+
+-- the lines of a batch of hits
+unfoldable pub hitLines : PatternSet → List (ℕ × ℕ) → List ℕ
+hitLines ps hs = flatten (map (hitLine ps) hs)
+
+-- the hit that the words hold at place i: two words a hit
+abbrev pub hitIn : List ℕ → ℕ → ℕ × ℕ
+hitIn ws i = (getD ws (2 * i) 0, getD ws (2 * i + 1) 0)
+
+-- the first n hits that the words hold
+unfoldable pub hitsIn : List ℕ → ℕ → List (ℕ × ℕ)
+hitsIn ws n = tabulate n (hitIn ws)

@@ -1,0 +1,136 @@
+/* The finder for C: Cartesian tree matching over lent arrays.
+ *
+ * Two stretches of values have one shape when their Cartesian trees are equal: the leftmost lowest value is the root, with the
+ * tree of what is before it on its left and of what is after it on its right.
+ *
+ * No function asks anything of its caller but that a pointer and its length name an array that may be read (const) or written:
+ * each answers, or refuses by number and then changes no word and counts nothing. An array of length 0 may be passed with any
+ * pointer that is not null and aligned. Arrays that one call is lent must not overlap. Nothing is allocated, nothing is kept
+ * between calls, and a call ends for every input. The static library is libfinder_c.a.
+ *
+ * Refusals:
+ *    0  none
+ *    1  a pattern or distance list holds nothing, a code comes with length 0, or the set holds no pattern
+ *    2  a pattern or distance list is longer than 256
+ *    3  a code is involved and the length is above 20
+ *    4  no values have the distance list, or no such list of that length has the code
+ *    5  the set array does not begin with the words of a good set
+ *    6  the set has 64 patterns, or the new one would take it past 4,096 distances
+ *    7  the automaton array does not begin with the words that finder_build_automaton writes for the set
+ *    8  the state is none that a search may go on from
+ *    9  the values bring the text past 1,048,576
+ *   10  the lent array is too short (each function says for what)
+ *   11  the list of a filter search does not fit its array
+ */
+#ifndef FINDER_H
+#define FINDER_H
+
+#include <stddef.h>
+#include <stdint.h>
+
+#ifdef __cplusplus
+extern "C" {
+#endif
+
+/* Refusal, and how many words or values at the front of the array are the result. */
+typedef struct {
+    uint32_t refusal;
+    size_t words;
+} FinderWritten;
+
+/* Refusal and code. */
+typedef struct {
+    uint32_t refusal;
+    uint64_t code;
+} FinderCode;
+
+/* Refusal and two counts. */
+typedef struct {
+    uint32_t refusal;
+    size_t first;
+    size_t second;
+} FinderCounts;
+
+/* A search between two calls: the values taken, the automaton's node, and the open minima (places among the last 256 values
+ * that have no smaller value after them) in a ring that starts at slot `first`. Make one with finder_new_search and hand on what
+ * each call returns; a state may be copied, stored and loaded as bytes on one machine. */
+typedef struct {
+    uint32_t taken;
+    uint32_t node;
+    uint32_t minima;
+    uint8_t first;
+    uint32_t places[256];
+    int32_t values[256];
+} FinderState;
+
+/* The state after the call, or, where it is refused, the state given; refusal; 1 where the values ended and 0 where the call is
+ * full; values taken, hits written and attempts made by this call. */
+typedef struct {
+    FinderState state;
+    uint32_t refusal;
+    uint32_t ended;
+    size_t taken;
+    size_t hits;
+    size_t attempts;
+} FinderStreamed;
+
+/* ---- one pattern */
+
+/* Writes the parent distances of n values: at place i it is i - j for the greatest j below i whose value is not above that at i,
+ * and 0 if there is none. Refuses 1, 2, 10 (room < n). Words behind the first n are as they were. */
+FinderWritten finder_distances(const int32_t *values, size_t n, uint32_t *out, size_t room);
+
+/* Writes the least values, none negative, that have the n distances. Refuses 1, 2, 4, 10 (room < n). */
+FinderWritten finder_least_realization(const uint32_t *distances, size_t n, int32_t *out, size_t room);
+
+/* Writes the global parent of each place: values have the tree exactly if each is above that at its global parent, or equal to
+ * it with the parent not to its right. Refuses 1, 2, 4, 10 (room < n). */
+FinderWritten finder_global_parents(const uint32_t *distances, size_t n, uint32_t *out, size_t room);
+
+/* Writes for each head the length of its longest proper tail with the tree of the head of that length. Refuses 1, 2, 4, 10. */
+FinderWritten finder_failure_lengths(const uint32_t *distances, size_t n, uint32_t *out, size_t room);
+
+/* Tells the rank of at most 20 distances in the factorial number system. Refuses 1, 2, 3, 4. */
+FinderCode finder_encode(const uint32_t *distances, size_t n);
+
+/* Writes the n distances whose rank is the code. Refuses 1, 3, 4, 10 (room < n). */
+FinderWritten finder_decode(size_t n, uint64_t code, uint32_t *out, size_t room);
+
+/* ---- sets of patterns, in an array of words */
+
+/* Writes the empty set, three words. Refuses 10 (room < 3). */
+FinderWritten finder_empty_set(uint32_t *set, size_t room);
+
+/* Tells the patterns (first) and the distances (second) of a set. Refuses 5. */
+FinderCounts finder_check_set(const uint32_t *set, size_t words);
+
+/* Adds a pattern, given as n values, as the last one; tells the patterns and the distances then. The set uses 3 words and one for
+ * each pattern and each distance. Refuses 1, 2, 5, 6, 10 (too few words for the larger set). */
+FinderCounts finder_add_pattern(uint32_t *set, size_t words, const int32_t *values, size_t n);
+
+/* ---- automaton and searches */
+
+/* Writes the automaton of a set with D distances into an array of at least 16 * (1 + D) words; tells its nodes (first) and the
+ * words used (second). Words behind them are as they were. Refuses 1, 5, 10. */
+FinderCounts finder_build_automaton(const uint32_t *set, size_t set_words, uint32_t *out, size_t room);
+
+/* The state of a new search. */
+FinderState finder_new_search(void);
+
+/* Takes values until they end, or until fewer than two words a pattern are free in the hit array and values are left (full: call
+ * again with the rest and the state returned). Writes the hits that end at the values taken to the front of the hit array: two
+ * words each, the last place in the whole text and the pattern number; by place, longer pattern first, then lower number. Words
+ * behind them are as they were. Refuses 1, 5, 7, 8, 9, 10 (hits_room < 2 * patterns). */
+FinderStreamed finder_stream_search(const uint32_t *set, size_t set_words, const uint32_t *automaton, size_t automaton_words,
+                                    FinderState state, const int32_t *values, size_t n, uint32_t *hits, size_t hits_room);
+
+/* Writes all hits of a whole text, the same list; tells the hits (first) and the candidates that were looked at (second).
+ * Refuses 1, 5, 9, 11, and has then written nothing. */
+FinderCounts finder_filter_search(const uint32_t *set, size_t set_words, const int32_t *text, size_t n, uint32_t *hits,
+                                  size_t hits_room);
+
+#ifdef __cplusplus
+}
+#endif
+
+#endif

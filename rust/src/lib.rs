@@ -1,0 +1,287 @@
+//! Finds Cartesian-tree shapes in recordings: two stretches of values match when their Cartesian trees are equal (the leftmost
+//! lowest value is the root).
+//!
+//! This crate is a thin, safe wrapper over a proved library; all `unsafe` code is in [`raw`].
+//!
+//! ```
+//! use finder::{Hit, Search, Set};
+//!
+//! let mut set = Set::new();
+//! set.add(&[1, 2])?;
+//! set.add(&[2, 1])?;
+//! set.add(&[2, 1, 2])?;
+//!
+//! // A recording that comes in pieces.
+//! let mut search = Search::new(&set)?;
+//! let mut hits = Vec::new();
+//! for piece in [&[5, 3, 4][..], &[4, 1]] {
+//!     hits.extend(search.feed(piece)?);
+//! }
+//! let expected = [(1, 1), (2, 2), (2, 0), (3, 0), (4, 1)];
+//! assert_eq!(hits, expected.map(|(last, pattern)| Hit { last, pattern }));
+//!
+//! // The same recording at once.
+//! assert_eq!(set.search(&[5, 3, 4, 4, 1])?.hits, hits);
+//! # Ok::<(), finder::Refusal>(())
+//! ```
+#![warn(missing_docs)]
+
+pub mod raw;
+
+use std::fmt;
+
+/// Why a call was refused; the numbers are those of the library. A refused call has changed nothing.
+#[derive(Clone, Copy, Debug, PartialEq, Eq, Hash)]
+#[repr(u32)]
+pub enum Refusal {
+    /// A pattern or distance list holds nothing, a code comes with length 0, or the set holds no pattern.
+    Empty = 1,
+    /// A pattern or distance list is longer than 256.
+    TooLong = 2,
+    /// A code is involved and the length is above 20.
+    CodeTooLong = 3,
+    /// No values have the distance list, or no such list of that length has the code.
+    NotRealizable = 4,
+    /// An array does not begin with the words of a good set.
+    BrokenSet = 5,
+    /// The set has 64 patterns, or the new one would take it past 4,096 distances.
+    SetFull = 6,
+    /// An array does not begin with the automaton of the set.
+    OtherAutomaton = 7,
+    /// The state is none that a search may go on from.
+    BrokenState = 8,
+    /// The values bring the text past 1,048,576.
+    TextTooLong = 9,
+    /// A lent array is too short.
+    ArrayTooShort = 10,
+    /// The list of hits does not fit its array.
+    ListTooLong = 11,
+}
+
+impl Refusal {
+    fn check(number: u32) -> Result<(), Refusal> {
+        use Refusal::*;
+        let all = [
+            Empty, TooLong, CodeTooLong, NotRealizable, BrokenSet, SetFull, OtherAutomaton, BrokenState, TextTooLong,
+            ArrayTooShort, ListTooLong,
+        ];
+        match number {
+            0 => Ok(()),
+            n => Err(all[n as usize - 1]),
+        }
+    }
+}
+
+impl fmt::Display for Refusal {
+    fn fmt(&self, f: &mut fmt::Formatter<'_>) -> fmt::Result {
+        write!(f, "refused {}: {:?}", *self as u32, self)
+    }
+}
+
+impl std::error::Error for Refusal {}
+
+/// A match: the place of the window's last value in the whole text, and the number of the pattern in its set.
+#[derive(Clone, Copy, Debug, PartialEq, Eq, Hash, PartialOrd, Ord)]
+pub struct Hit {
+    /// The last place.
+    pub last: u32,
+    /// The pattern's number.
+    pub pattern: u32,
+}
+
+fn hits_of(words: &[u32]) -> Vec<Hit> {
+    words.chunks_exact(2).map(|w| Hit { last: w[0], pattern: w[1] }).collect()
+}
+
+/// The parent distances of values: two lists of values have equal trees exactly if they have equal distances.
+///
+/// ```
+/// assert_eq!(finder::distances(&[2, 7, 5, 6, 4, 3, 1])?, [0, 1, 2, 1, 4, 5, 0]);
+/// # Ok::<(), finder::Refusal>(())
+/// ```
+pub fn distances(values: &[i32]) -> Result<Vec<u32>, Refusal> {
+    let mut out = vec![0; values.len()];
+    Refusal::check(raw::distances(values, &mut out).refusal)?;
+    Ok(out)
+}
+
+/// The least values, none negative, that have the distances.
+///
+/// ```
+/// use finder::{least_realization, Refusal};
+/// assert_eq!(least_realization(&[0, 1, 2, 3])?, [0, 2, 1, 0]);
+/// assert_eq!(least_realization(&[0, 1, 2, 2]), Err(Refusal::NotRealizable));
+/// # Ok::<(), Refusal>(())
+/// ```
+pub fn least_realization(distances: &[u32]) -> Result<Vec<i32>, Refusal> {
+    let mut out = vec![0; distances.len()];
+    Refusal::check(raw::least_realization(distances, &mut out).refusal)?;
+    Ok(out)
+}
+
+/// The global parent of each place of a pattern given by its distances.
+///
+/// ```
+/// let ds = finder::distances(&[3, 1, 6, 4, 8, 6, 7, 5, 9])?;
+/// assert_eq!(finder::global_parents(&ds)?, [1, 1, 3, 1, 5, 7, 5, 3, 7]);
+/// # Ok::<(), finder::Refusal>(())
+/// ```
+pub fn global_parents(distances: &[u32]) -> Result<Vec<u32>, Refusal> {
+    let mut out = vec![0; distances.len()];
+    Refusal::check(raw::global_parents(distances, &mut out).refusal)?;
+    Ok(out)
+}
+
+/// The failure length of each head of a pattern given by its distances.
+///
+/// ```
+/// let ds = finder::distances(&[5, 7, 4, 6, 1, 3, 2])?;
+/// assert_eq!(finder::failure_lengths(&ds)?, [0, 1, 1, 2, 3, 4, 1]);
+/// # Ok::<(), finder::Refusal>(())
+/// ```
+pub fn failure_lengths(distances: &[u32]) -> Result<Vec<u32>, Refusal> {
+    let mut out = vec![0; distances.len()];
+    Refusal::check(raw::failure_lengths(distances, &mut out).refusal)?;
+    Ok(out)
+}
+
+/// The rank of at most 20 distances in the factorial number system.
+///
+/// ```
+/// let ds = finder::distances(&[11, 14, 13, 15, 12])?;
+/// assert_eq!(finder::encode(&ds)?, 107);
+/// assert_eq!(finder::decode(5, 107)?, ds);
+/// # Ok::<(), finder::Refusal>(())
+/// ```
+pub fn encode(distances: &[u32]) -> Result<u64, Refusal> {
+    let answer = raw::encode(distances);
+    Refusal::check(answer.refusal)?;
+    Ok(answer.code)
+}
+
+/// The `n` distances whose rank is the code.
+pub fn decode(n: usize, code: u64) -> Result<Vec<u32>, Refusal> {
+    let mut out = vec![0; n.min(20)];
+    Refusal::check(raw::decode(n, code, &mut out).refusal)?;
+    Ok(out)
+}
+
+/// A set of up to 64 patterns with up to 4,096 values in all.
+#[derive(Clone, Debug, PartialEq, Eq)]
+pub struct Set {
+    words: Vec<u32>,
+}
+
+impl Default for Set {
+    fn default() -> Self {
+        Set::new()
+    }
+}
+
+impl Set {
+    /// The empty set.
+    pub fn new() -> Set {
+        Set { words: vec![0; 3] }
+    }
+
+    /// Adds a pattern, given as values; it gets the next number.
+    pub fn add(&mut self, values: &[i32]) -> Result<(), Refusal> {
+        let used = self.words.len();
+        self.words.resize(used + 1 + values.len(), 0);
+        let answer = Refusal::check(raw::add_pattern(&mut self.words, values).refusal);
+        if answer.is_err() {
+            self.words.truncate(used);
+        }
+        answer
+    }
+
+    /// The number of patterns.
+    pub fn len(&self) -> usize {
+        self.words[0] as usize
+    }
+
+    /// Whether there is no pattern.
+    pub fn is_empty(&self) -> bool {
+        self.len() == 0
+    }
+
+    /// The set's words, as the library lays them out.
+    pub fn words(&self) -> &[u32] {
+        &self.words
+    }
+
+    /// All hits of a whole text: by last place, longer pattern first, then lower number.
+    pub fn search(&self, text: &[i32]) -> Result<Found, Refusal> {
+        let mut words = vec![0; 1024];
+        loop {
+            let answer = raw::filter_search(&self.words, text, &mut words);
+            match Refusal::check(answer.refusal) {
+                Ok(()) => {
+                    return Ok(Found { hits: hits_of(&words[..2 * answer.first]), candidates: answer.second });
+                }
+                Err(Refusal::ListTooLong) => words.resize(4 * words.len(), 0),
+                Err(refusal) => return Err(refusal),
+            }
+        }
+    }
+}
+
+/// What a search over a whole text finds.
+#[derive(Clone, Debug, PartialEq, Eq)]
+pub struct Found {
+    /// The hits, in their order.
+    pub hits: Vec<Hit>,
+    /// The pairs of pattern and window that the filter let through to the check.
+    pub candidates: usize,
+}
+
+/// A search over a text that comes in pieces. Its memory does not grow with the text.
+#[derive(Clone)]
+pub struct Search {
+    set: Set,
+    automaton: Vec<u32>,
+    state: raw::State,
+    buffer: Vec<u32>,
+    attempts: u64,
+}
+
+impl Search {
+    /// A new search for the patterns of a set.
+    pub fn new(set: &Set) -> Result<Search, Refusal> {
+        let room = 16 * (1 + set.words[1] as usize);
+        let mut automaton = vec![0; room];
+        let built = raw::build_automaton(&set.words, &mut automaton);
+        Refusal::check(built.refusal)?;
+        automaton.truncate(built.second);
+        let buffer = vec![0; 2 * set.len().max(512)];
+        Ok(Search { set: set.clone(), automaton, state: raw::new_search(), buffer, attempts: 0 })
+    }
+
+    /// Takes the next values of the text; the hits that end at them. Places count from the start of the text. A refused call has
+    /// taken none of the values.
+    pub fn feed(&mut self, values: &[i32]) -> Result<Vec<Hit>, Refusal> {
+        let mut hits = Vec::new();
+        let mut rest = values;
+        loop {
+            let answer = raw::stream_search(&self.set.words, &self.automaton, self.state, rest, &mut self.buffer);
+            Refusal::check(answer.refusal)?;
+            hits.extend(hits_of(&self.buffer[..2 * answer.hits]));
+            self.state = answer.state;
+            self.attempts += answer.attempts as u64;
+            rest = &rest[answer.taken..];
+            if answer.ended == 1 {
+                return Ok(hits);
+            }
+        }
+    }
+
+    /// The values taken so far.
+    pub fn taken(&self) -> usize {
+        self.state.taken as usize
+    }
+
+    /// The attempts made so far: at most twice the values taken.
+    pub fn attempts(&self) -> u64 {
+        self.attempts
+    }
+}

@@ -1,0 +1,170 @@
+//! The library's functions as C declares them, over slices: each answers, or refuses by number and changes nothing.
+
+/// Refusal, 0 for none, and the words or values at the front of the array that are the result.
+#[derive(Clone, Copy, Debug)]
+#[repr(C)]
+pub struct Written {
+    /// Refusal.
+    pub refusal: u32,
+    /// Words or values written.
+    pub words: usize,
+}
+
+/// Refusal and code.
+#[derive(Clone, Copy, Debug)]
+#[repr(C)]
+pub struct Code {
+    /// Refusal.
+    pub refusal: u32,
+    /// Code.
+    pub code: u64,
+}
+
+/// Refusal and two counts.
+#[derive(Clone, Copy, Debug)]
+#[repr(C)]
+pub struct Counts {
+    /// Refusal.
+    pub refusal: u32,
+    /// Patterns, nodes or hits.
+    pub first: usize,
+    /// Distances, words or candidates.
+    pub second: usize,
+}
+
+/// A search between two calls.
+#[derive(Clone, Copy, Debug, PartialEq, Eq)]
+#[repr(C)]
+pub struct State {
+    /// Values taken.
+    pub taken: u32,
+    /// The automaton's node.
+    pub node: u32,
+    /// How many open minima there are.
+    pub minima: u32,
+    /// The slot of the oldest.
+    pub first: u8,
+    /// Their places.
+    pub places: [u32; 256],
+    /// Their values.
+    pub values: [i32; 256],
+}
+
+/// What a call of the stream search returns.
+#[derive(Clone, Copy, Debug)]
+#[repr(C)]
+pub struct Streamed {
+    /// The state after the call, or, where it is refused, the state given.
+    pub state: State,
+    /// Refusal.
+    pub refusal: u32,
+    /// 1 where the values ended and 0 where the call is full.
+    pub ended: u32,
+    /// Values taken.
+    pub taken: usize,
+    /// Hits written.
+    pub hits: usize,
+    /// Attempts made.
+    pub attempts: usize,
+}
+
+mod c {
+    use super::{Code, Counts, State, Streamed, Written};
+    extern "C" {
+        pub fn finder_distances(v: *const i32, n: usize, out: *mut u32, room: usize) -> Written;
+        pub fn finder_least_realization(d: *const u32, n: usize, out: *mut i32, room: usize) -> Written;
+        pub fn finder_global_parents(d: *const u32, n: usize, out: *mut u32, room: usize) -> Written;
+        pub fn finder_failure_lengths(d: *const u32, n: usize, out: *mut u32, room: usize) -> Written;
+        pub fn finder_encode(d: *const u32, n: usize) -> Code;
+        pub fn finder_decode(n: usize, code: u64, out: *mut u32, room: usize) -> Written;
+        pub fn finder_empty_set(out: *mut u32, room: usize) -> Written;
+        pub fn finder_check_set(set: *const u32, n: usize) -> Counts;
+        pub fn finder_add_pattern(set: *mut u32, n: usize, v: *const i32, m: usize) -> Counts;
+        pub fn finder_build_automaton(set: *const u32, n: usize, out: *mut u32, room: usize) -> Counts;
+        pub fn finder_new_search() -> State;
+        pub fn finder_stream_search(
+            set: *const u32, n: usize, automaton: *const u32, a: usize, state: State, v: *const i32, m: usize,
+            hits: *mut u32, room: usize,
+        ) -> Streamed;
+        pub fn finder_filter_search(
+            set: *const u32, n: usize, v: *const i32, m: usize, hits: *mut u32, room: usize,
+        ) -> Counts;
+    }
+}
+
+// Every function below hands on slices as the pointer and length that the library takes; it reads and writes nothing else and
+// keeps nothing. A slice's pointer is never null and is aligned, and an exclusive slice overlaps no other.
+
+/// Parent distances of values.
+pub fn distances(values: &[i32], out: &mut [u32]) -> Written {
+    unsafe { c::finder_distances(values.as_ptr(), values.len(), out.as_mut_ptr(), out.len()) }
+}
+
+/// Least values that have the distances.
+pub fn least_realization(ds: &[u32], out: &mut [i32]) -> Written {
+    unsafe { c::finder_least_realization(ds.as_ptr(), ds.len(), out.as_mut_ptr(), out.len()) }
+}
+
+/// Global parents.
+pub fn global_parents(ds: &[u32], out: &mut [u32]) -> Written {
+    unsafe { c::finder_global_parents(ds.as_ptr(), ds.len(), out.as_mut_ptr(), out.len()) }
+}
+
+/// Failure lengths.
+pub fn failure_lengths(ds: &[u32], out: &mut [u32]) -> Written {
+    unsafe { c::finder_failure_lengths(ds.as_ptr(), ds.len(), out.as_mut_ptr(), out.len()) }
+}
+
+/// Rank of a list of distances.
+pub fn encode(ds: &[u32]) -> Code {
+    unsafe { c::finder_encode(ds.as_ptr(), ds.len()) }
+}
+
+/// Distances of a length and a rank.
+pub fn decode(n: usize, code: u64, out: &mut [u32]) -> Written {
+    unsafe { c::finder_decode(n, code, out.as_mut_ptr(), out.len()) }
+}
+
+/// The empty set.
+pub fn empty_set(out: &mut [u32]) -> Written {
+    unsafe { c::finder_empty_set(out.as_mut_ptr(), out.len()) }
+}
+
+/// Patterns and distances of a set.
+pub fn check_set(set: &[u32]) -> Counts {
+    unsafe { c::finder_check_set(set.as_ptr(), set.len()) }
+}
+
+/// Adds a pattern to a set in place.
+pub fn add_pattern(set: &mut [u32], values: &[i32]) -> Counts {
+    unsafe { c::finder_add_pattern(set.as_mut_ptr(), set.len(), values.as_ptr(), values.len()) }
+}
+
+/// The automaton of a set.
+pub fn build_automaton(set: &[u32], out: &mut [u32]) -> Counts {
+    unsafe { c::finder_build_automaton(set.as_ptr(), set.len(), out.as_mut_ptr(), out.len()) }
+}
+
+/// The state of a new search.
+pub fn new_search() -> State {
+    unsafe { c::finder_new_search() }
+}
+
+/// One call of the stream search.
+pub fn stream_search(set: &[u32], automaton: &[u32], state: State, values: &[i32], hits: &mut [u32]) -> Streamed {
+    unsafe {
+        c::finder_stream_search(
+            set.as_ptr(), set.len(), automaton.as_ptr(), automaton.len(), state, values.as_ptr(), values.len(),
+            hits.as_mut_ptr(), hits.len(),
+        )
+    }
+}
+
+/// A filter search over a whole text.
+pub fn filter_search(set: &[u32], text: &[i32], hits: &mut [u32]) -> Counts {
+    unsafe {
+        c::finder_filter_search(
+            set.as_ptr(), set.len(), text.as_ptr(), text.len(), hits.as_mut_ptr(), hits.len(),
+        )
+    }
+}
