@@ -1,0 +1,183 @@
+/* Measures the finder's searches beside plain implementations of the same jobs, on the same texts and sets.
+ *
+ * bench            all data sets and sets of patterns: CPU time, best of three runs, in nanoseconds a value
+ * bench count E D S N   runs engine E once over N values of data set D with set S, for a counter of instructions
+ */
+#include <stdio.h>
+#include <stdlib.h>
+#include <string.h>
+#include <time.h>
+#include "../include/finder.h"
+#include "plain.h"
+
+enum { LONGEST = 1048576, HIT_WORDS = 1 << 27 };
+
+static int32_t text[LONGEST];
+static uint32_t *hits;
+static uint32_t set[8192], automaton[16 * 4097];
+static Patterns patterns;
+static uint64_t seed;
+
+static uint64_t next(void)
+{
+    seed ^= seed << 13;
+    seed ^= seed >> 7;
+    return seed ^= seed << 17;
+}
+
+static double seconds(void)
+{
+    struct timespec t;
+    clock_gettime(CLOCK_PROCESS_CPUTIME_ID, &t);
+    return (double)t.tv_sec + 1e-9 * (double)t.tv_nsec;
+}
+
+static const char *const data_name[] = {"uniform", "walk", "pump", "ramps", "equal"};
+
+static void make_text(int data, size_t n)
+{
+    int32_t w = 0;
+    seed = 88172645463325252ull + (uint64_t)data;
+    for (size_t i = 0; i < n; i++)
+        switch (data) {
+        case 0: text[i] = (int32_t)next(); break;
+        case 1: text[i] = w += (int32_t)(next() % 21) - 10; break;
+        case 2: { /* inrush, quantised plateau with many ties, flats */
+            size_t p = i % 4000;
+            text[i] = p < 40 ? 1200 - 20 * (int32_t)p : p < 2500 ? 400 + 5 * (int32_t)(next() % 4) : p < 2600 ? 300 : 0;
+            break;
+        }
+        case 3: text[i] = (int32_t)(i % 5000); break;
+        default: text[i] = 7;
+        }
+}
+
+static const struct { size_t count, length; const char *name; } set_of[] = {
+    {1, 4, "1 of 4"}, {8, 4, "8 of 4"}, {64, 4, "64 of 4"}, {1, 16, "1 of 16"}, {8, 16, "8 of 16"}, {64, 16, "64 of 16"},
+    {1, 64, "1 of 64"}, {8, 64, "8 of 64"}, {64, 64, "64 of 64"}, {8, 0, "8 mixed"}, {64, 0, "64 mixed"}};
+enum { SETS = sizeof set_of / sizeof set_of[0] };
+
+static void make_set(int s, size_t n)
+{
+    static const size_t mixed[] = {4, 8, 16, 32, 64, 100};
+    seed = 1181783497276652981ull + (uint64_t)s;
+    patterns.count = set_of[s].count;
+    finder_empty_set(set, 8192);
+    for (size_t j = 0; j < patterns.count; j++) {
+        size_t m = set_of[s].length ? set_of[s].length : mixed[next() % 6];
+        const int32_t *from = text + next() % (n - m);
+        patterns.length[j] = m;
+        memcpy(patterns.values[j], from, m * sizeof *from);
+        if (finder_add_pattern(set, 8192, from, m).refusal)
+            exit(1);
+    }
+    if (finder_build_automaton(set, 8192, automaton, 16 * 4097).refusal)
+        exit(1);
+}
+
+static const Automaton *plain_a;
+static const Filter *plain_f;
+static size_t attempts;
+
+/* One search over the first n values; the hits. */
+__attribute__((noinline)) size_t run_engine(int engine, size_t n)
+{
+    switch (engine) {
+    case 0: {
+        FinderState state = finder_new_search();
+        size_t at = 0, found = 0;
+        attempts = 0;
+        while (at < n) {
+            FinderStreamed s = finder_stream_search(set, 8192, automaton, 16 * 4097, state, text + at, n - at, hits + 2 * found, HIT_WORDS - 2 * found);
+            if (s.refusal)
+                exit(1);
+            state = s.state;
+            at += s.taken;
+            found += s.hits;
+            attempts += s.attempts;
+        }
+        return found;
+    }
+    case 1: {
+        FinderCounts f = finder_filter_search(set, 8192, text, n, hits, HIT_WORDS);
+        if (f.refusal)
+            exit(1);
+        return f.first;
+    }
+    case 2: return plain_stream(plain_a, text, n, hits);
+    case 3: return plain_filtered(plain_f, text, n, hits);
+    default: return plain_windows(plain_f, text, n, hits);
+    }
+}
+
+static uint64_t sum_of(size_t found)
+{
+    uint64_t sum = found;
+    for (size_t i = 0; i < 2 * found; i++)
+        sum = (sum ^ hits[i]) * 1099511628211ull;
+    return sum;
+}
+
+static double best_of(int engine, int runs, uint64_t *sum, size_t *found)
+{
+    double best = 1e9;
+    for (int i = 0; i < runs; i++) {
+        double t = seconds();
+        *found = run_engine(engine, LONGEST);
+        t = seconds() - t;
+        if (t < best)
+            best = t;
+    }
+    *sum = sum_of(*found);
+    return best * 1e9 / LONGEST;
+}
+
+static double call_cost(void)
+{
+    double t = seconds();
+    for (int i = 0; i < 50; i++)
+        if (finder_stream_search(set, 8192, automaton, 16 * 4097, finder_new_search(), text, 0, hits, 128).refusal)
+            exit(1);
+    return (seconds() - t) * 1e6 / 50;
+}
+
+int main(int argc, char **argv)
+{
+    hits = malloc((size_t)HIT_WORDS * sizeof *hits);
+    if (!hits)
+        return 1;
+    if (argc == 6 && !strcmp(argv[1], "count")) {
+        size_t n = (size_t)atol(argv[5]);
+        make_text(atoi(argv[3]), n);
+        make_set(atoi(argv[4]), n);
+        plain_a = plain_automaton(&patterns);
+        plain_f = plain_filter(&patterns);
+        printf("%zu\n", run_engine(atoi(argv[2]), n));
+        return 0;
+    }
+    printf("| data | set | hits | stream | Aho-Corasick | ratio | filter | one-pass filter | ratio | windows | attempts | call us |\n");
+    printf("|---|---|---|---|---|---|---|---|---|---|---|---|\n");
+    for (int d = 0; d < 5; d++) {
+        make_text(d, LONGEST);
+        for (int s = 0; s < SETS; s++) {
+            uint64_t sum[5];
+            size_t found = 0;
+            double ns[5];
+            fprintf(stderr, "\r%-10s %-10s %2d of %d", data_name[d], set_of[s].name, d * SETS + s + 1, 5 * SETS);
+            make_set(s, LONGEST);
+            plain_a = plain_automaton(&patterns);
+            plain_f = plain_filter(&patterns);
+            for (int e = 0; e < 5; e++) {
+                ns[e] = best_of(e, e == 4 ? 1 : 3, &sum[e], &found);
+                if (sum[e] != sum[0])
+                    fprintf(stderr, "\nengine %d lists other hits\n", e);
+            }
+            run_engine(0, LONGEST);
+            printf("| %s | %s | %zu | %.1f | %.1f | %.2f | %.1f | %.1f | %.2f | %.1f | %.3f | %.1f |\n", data_name[d], set_of[s].name, found, ns[0], ns[2], ns[0] / ns[2], ns[1], ns[3], ns[1] / ns[3], ns[4], (double)attempts / LONGEST, call_cost());
+            fflush(stdout);
+            free((void *)plain_f);
+        }
+    }
+    fprintf(stderr, "\n");
+    return 0;
+}
