@@ -93,6 +93,13 @@ fn hits_of(words: &[u32]) -> Vec<Hit> {
     words.chunks_exact(2).map(|w| Hit { last: w[0], pattern: w[1] }).collect()
 }
 
+/// What a call writes to an array as long as the list it is given.
+fn written<T, U: Clone + Default>(list: &[T], call: fn(&[T], &mut [U]) -> raw::Written) -> Result<Vec<U>, Refusal> {
+    let mut out = vec![U::default(); list.len()];
+    Refusal::check(call(list, &mut out).refusal)?;
+    Ok(out)
+}
+
 /// The parent distances of values: two lists of values have equal trees exactly if they have equal distances.
 ///
 /// ```
@@ -100,9 +107,7 @@ fn hits_of(words: &[u32]) -> Vec<Hit> {
 /// # Ok::<(), finder::Refusal>(())
 /// ```
 pub fn distances(values: &[i32]) -> Result<Vec<u32>, Refusal> {
-    let mut out = vec![0; values.len()];
-    Refusal::check(raw::distances(values, &mut out).refusal)?;
-    Ok(out)
+    written(values, raw::distances)
 }
 
 /// The least values, none negative, that have the distances.
@@ -114,9 +119,7 @@ pub fn distances(values: &[i32]) -> Result<Vec<u32>, Refusal> {
 /// # Ok::<(), Refusal>(())
 /// ```
 pub fn least_realization(distances: &[u32]) -> Result<Vec<i32>, Refusal> {
-    let mut out = vec![0; distances.len()];
-    Refusal::check(raw::least_realization(distances, &mut out).refusal)?;
-    Ok(out)
+    written(distances, raw::least_realization)
 }
 
 /// The global parent of each place of a pattern given by its distances.
@@ -127,9 +130,7 @@ pub fn least_realization(distances: &[u32]) -> Result<Vec<i32>, Refusal> {
 /// # Ok::<(), finder::Refusal>(())
 /// ```
 pub fn global_parents(distances: &[u32]) -> Result<Vec<u32>, Refusal> {
-    let mut out = vec![0; distances.len()];
-    Refusal::check(raw::global_parents(distances, &mut out).refusal)?;
-    Ok(out)
+    written(distances, raw::global_parents)
 }
 
 /// The failure length of each head of a pattern given by its distances.
@@ -140,9 +141,7 @@ pub fn global_parents(distances: &[u32]) -> Result<Vec<u32>, Refusal> {
 /// # Ok::<(), finder::Refusal>(())
 /// ```
 pub fn failure_lengths(distances: &[u32]) -> Result<Vec<u32>, Refusal> {
-    let mut out = vec![0; distances.len()];
-    Refusal::check(raw::failure_lengths(distances, &mut out).refusal)?;
-    Ok(out)
+    written(distances, raw::failure_lengths)
 }
 
 /// The rank of at most 20 distances in the factorial number system.

@@ -86,7 +86,7 @@ pub fn stream_search(
     if !state_is_good(set, automaton, k, count, state) {
         return refused(state, Refusal::BrokenState);
     }
-    if values.len() > 1048576 - state.taken as usize {
+    if values.len() > SearchState::LONGEST - state.taken as usize {
         return refused(state, Refusal::TextTooLong);
     }
     if hits.len() < 2 * k {
