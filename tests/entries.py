@@ -177,6 +177,18 @@ def values(n, spread):
     return [random.choice((LOW, HIGH)) if random.random() < 0.02 else random.randint(0, 2 * spread) for _ in range(n)]
 
 
+# ---- document 01's worked cases, by which what is computed here is held to it
+assert distances([2, 7, 5, 6, 4, 3, 1]) == [0, 1, 2, 1, 4, 5, 0]
+assert distances([11, 14, 13, 15, 12]) == [0, 1, 2, 1, 4] and code([0, 1, 2, 1, 4]) == 107
+assert distances([4, 22, 3, 5, 2, 23, 15, 1]) == [0, 1, 0, 1, 0, 1, 2, 0]
+nine = distances([3, 1, 6, 4, 8, 6, 7, 5, 9])
+assert nine == [0, 0, 1, 2, 1, 2, 1, 4, 1]
+assert parents(nine) == [1, 1, 3, 1, 5, 7, 5, 3, 7] and least(nine) == [1, 0, 1, 0, 2, 1, 1, 0, 0]
+assert distances([5, 5]) == [0, 1] and distances([5, 4]) == [0, 0]
+assert least([0, 1, 2, 2]) is None and least([0, 1, 2, 3]) == [0, 2, 1, 0]
+assert unrank(4, 23) == [0, 1, 2, 3] and least(unrank(4, 17)) is None and factorial(4) == 24
+assert failures(distances([5, 7, 4, 6, 1, 3, 2])) == [0, 1, 1, 2, 3, 4, 1]
+
 # ---- patterns
 worked = [(2, 7, 5, 6, 4, 3, 1), (11, 14, 13, 15, 12), (4, 22, 3, 5, 2, 23, 15, 1), (3, 1, 6, 4, 8, 6, 7, 5, 9), (5, 5),
           (5, 4), (5, 7, 4, 6, 1, 3, 2), (1, 4, 3, 4, 1), (6, 2, 5, 1, 4, 3, 7), (LOW, HIGH, LOW, 0, HIGH), (0,)]

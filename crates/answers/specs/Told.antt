@@ -8,7 +8,6 @@ use Rattle.answers.specs.declared.SetSize.{SetSize}
 use Rattle.answers.specs.declared.Built.{Built}
 use Rattle.answers.specs.declared.Filtered.{Filtered}
 use Rattle.answers.specs.declared.StreamAnswer.{StreamAnswer}
-use Rattle.answers.specs.declared.Counts.{Counts}
 
 -- Document 01: When the finder declines
 abbrev pub number : Refusal → ℕ

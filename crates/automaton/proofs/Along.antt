@@ -5,8 +5,7 @@ use native.Mathlib.Omega.{arith}
 use lib.Dec.{T}
 use lib.ListN.{length}
 use Rattle.pattern_set.specs.PatternSet.{PatternSet, goodSet}
-use Rattle.model.specs.Nodes.{nodes, headOf}
-use Rattle.model.specs.AutomatonWords.{firstChild}
+use Rattle.model.specs.Automaton.{nodes, headOf, firstChild}
 use Rattle.model.proofs.Children.{parentNode, parentNode-lt, firstChild-within}
 use Rattle.model.proofs.Order.{firstPlace, beginsAt}
 

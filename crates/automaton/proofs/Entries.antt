@@ -13,10 +13,8 @@ use Rattle.pattern_set.specs.PatternSet.{PatternSet, readSet}
 use Rattle.model.specs.Refusals.{firstMet, told, after}
 use Rattle.model.proofs.Refusals.{tellTwo, leave, met, unmet}
 use Rattle.set_arrays.proofs.Checked.{broken-searchable, empty-unsearchable, filled-searchable}
-use Rattle.model.specs.SetEntries.{isBroken, isUnsearchable}
-use Rattle.model.specs.SearchEntries.{buildEntry}
-use Rattle.model.specs.Nodes.{nodes}
-use Rattle.model.specs.AutomatonWords.{automatonWords}
+use Rattle.model.specs.Entries.{isBroken, isUnsearchable, buildEntry}
+use Rattle.model.specs.Automaton.{nodes, automatonWords}
 use Rattle.model.proofs.Lengths.{length-automaton}
 use Rattle.set_access.specs.Patterns.{patternsOf, Good}
 use Rattle.automaton_lookup.specs.Made.{Made}

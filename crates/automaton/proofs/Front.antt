@@ -10,8 +10,7 @@ use lib.Seq.{take-add, take-at, drop-at, drop-append-add, drop-drop, drop-cons, 
 use Rattle.lists.specs.Prelude.{tabulate, same}
 use Rattle.lists.proofs.Lists.{length-tabulate}
 use Rattle.pattern_set.specs.PatternSet.{PatternSet}
-use Rattle.model.specs.Nodes.{nodes}
-use Rattle.model.specs.AutomatonWords.{order, sharedAt, recordOf, automatonWords}
+use Rattle.model.specs.Automaton.{nodes, order, sharedAt, recordOf, automatonWords}
 use Rattle.model.proofs.Order.{length-order}
 use Rattle.model.proofs.Lengths.{length-automaton}
 use Rattle.automaton_order.specs.FirstWords.{HasOrder, HasShared}

@@ -8,9 +8,8 @@ use lib.ListN.{length, take, drop, length-append, length-drop, take-append-drop}
 use lib.Seq.{take-add, take-at, drop-append-add, drop-drop, take-length, take-take, ext-getD, getD-take, getD-drop, length-take-le}
 use Rattle.lists.specs.Prelude.{same, begins}
 use Rattle.pattern_set.specs.PatternSet.{PatternSet}
-use Rattle.model.specs.Nodes.{nodes}
-use Rattle.model.specs.AutomatonWords.{recordOf, automatonWords}
-use Rattle.model.proofs.Lengths.{length-automaton}
+use Rattle.model.specs.Automaton.{nodes, recordOf, automatonWords}
+use Rattle.model.proofs.Lengths.{length-automaton, length-record}
 use Rattle.set_access.specs.Patterns.{patternsOf, Good}
 use Rattle.automaton_lookup.specs.Made.{Made}
 use Rattle.automaton_lookup.proofs.Words.{made-field}
@@ -22,10 +21,6 @@ use Rattle.automaton.proofs.More.{false-same, drop-front}
 -- where the record of node n begins
 abbrev pub recordAt : PatternSet → ℕ → ℕ
 recordAt ps n = 2 * length ps + 1 + 8 * n
-
-length-record : (ps : PatternSet) (n : ℕ) → length (recordOf ps n) ≡ 8
-unfolding recordOf
-length-record ps n = refl
 
 module _ (ws : List ℕ) (good : Good ws) (some : 0 < length (patternsOf ws)) (n : ℕ) (h : n < length (nodes (patternsOf ws))) where
   record-part : take 8 (drop (recordAt (patternsOf ws) n) (automatonWords (patternsOf ws))) ≡ recordOf (patternsOf ws) n

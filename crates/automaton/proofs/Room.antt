@@ -3,7 +3,7 @@ use mathlib.Core.List.{List, flatten}
 use Prim.Native.Nat.{ℕ, zero, suc, _+_, _*_, _≤_}
 use native.Mathlib.Omega.{arith}
 use lib.ListN.{length, take}
-use Rattle.model.specs.AutomatonWords.{automatonWords}
+use Rattle.model.specs.Automaton.{automatonWords}
 use Rattle.model.proofs.Lengths.{length-nodes, length-automaton}
 use Rattle.set_access.specs.Patterns.{patternsOf, Good}
 use Rattle.set_access.proofs.Laws.{offset-next, offset-le, pattern-ge}

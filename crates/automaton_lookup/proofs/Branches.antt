@@ -10,9 +10,8 @@ use lib.Dec.{T}
 use lib.ListN.{length, getD, length-append}
 use lib.Seq.{getD-append-seam}
 use Rattle.pattern_set.specs.PatternSet.{PatternSet, goodSet}
-use Rattle.matching.specs.Heads.{isHead}
-use Rattle.model.specs.Nodes.{nodes, headOf, nodeOf}
-use Rattle.model.specs.AutomatonWords.{firstChild, children}
+use Rattle.matching.specs.Matching.{isHead}
+use Rattle.model.specs.Automaton.{nodes, headOf, nodeOf, firstChild, children}
 use Rattle.model.proofs.Nodes.{head-node, node-head}
 use Rattle.model.proofs.Children.{child-head, child-labels-rise, child-number}
 use Rattle.automaton_lookup.specs.Made.{childOf}

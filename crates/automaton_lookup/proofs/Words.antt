@@ -13,19 +13,14 @@ use Rattle.lists.specs.Prelude.{tabulate}
 use Rattle.lists.proofs.Lists.{length-tabulate, getD-tabulate}
 use Rattle.pattern_set.specs.PatternSet.{PatternSet, goodSet, readSet}
 use Rattle.pattern_set.proofs.ReadSet.{readSet-iff}
-use Rattle.model.specs.Nodes.{nodes}
-use Rattle.model.specs.AutomatonWords.{order, sharedAt, recordOf, automatonWords}
-use Rattle.model.specs.SetEntries.{isBroken, setOf}
+use Rattle.model.specs.Automaton.{nodes, order, sharedAt, recordOf, automatonWords}
+use Rattle.model.specs.Entries.{isBroken, setOf}
 use Rattle.model.proofs.Order.{length-order}
-use Rattle.model.proofs.Lengths.{length-automaton}
+use Rattle.model.proofs.Lengths.{length-automaton, length-record}
 use Rattle.automaton_lookup.specs.Made.{Made}
 use Rattle.automaton_lookup.proofs.More.{getD-front, getD-rows}
 
 -- ---- the words
-
-length-record : (ps : PatternSet) (n : ℕ) → length (recordOf ps n) ≡ 8
-unfolding recordOf
-length-record ps n = refl
 
 module _ (ps : PatternSet) where
   length-numbers : length (order ps ++ tabulate (length ps) (sharedAt ps)) ≡ 2 * length ps

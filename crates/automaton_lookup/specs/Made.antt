@@ -1,10 +1,9 @@
 -- An array with the first records of an automaton, and the branches of a node.
 use Rattle.lists.specs.Prelude.{_≡_, false, cond, List, [], _∷_, _++_, ℕ, _+_, _*_, _≤_, _<_, length, take}
 use Rattle.pattern_set.specs.PatternSet.{PatternSet, readSet}
-use Rattle.matching.specs.Heads.{isHead}
-use Rattle.model.specs.Nodes.{nodes, headOf, nodeOf}
-use Rattle.model.specs.AutomatonWords.{automatonWords}
-use Rattle.model.specs.SetEntries.{isBroken, setOf}
+use Rattle.matching.specs.Matching.{isHead}
+use Rattle.model.specs.Automaton.{nodes, headOf, nodeOf, automatonWords}
+use Rattle.model.specs.Entries.{isBroken, setOf}
 
 -- the array has the words of the automaton of the set up to the record of node m - 1, and room for all of them
 abbrev pub Made : List ℕ → List ℕ → ℕ → Type 0

@@ -5,10 +5,9 @@ ghost use Prim.Native.Nat.{_+_, _-_, _≤_, _<_};
 ghost use lib.ListN.{length, getD};
 ghost use Rattle.lists.specs.Prelude.{select};
 ghost use Rattle.pattern_set.specs.PatternSet.{readSet};
-ghost use Rattle.matching.specs.Heads.{failure, chain};
-ghost use Rattle.model.specs.Nodes.{before, nodes, headOf, nodeOf};
-ghost use Rattle.model.specs.AutomatonWords.{order, sharedAt, endsAt, firstEnd, children, firstChild, recordOf};
-ghost use Rattle.model.specs.SetEntries.{setOf};
+ghost use Rattle.matching.specs.Matching.{failure, chain};
+ghost use Rattle.model.specs.Automaton.{before, nodes, headOf, nodeOf, order, sharedAt, endsAt, firstEnd, children, firstChild, recordOf};
+ghost use Rattle.model.specs.Entries.{setOf};
 ghost use Rattle.automaton_lookup.specs.Made.{Made, childOf};
 
 fn wide(x: u32) -> usize

@@ -9,39 +9,26 @@ use native.Mathlib.Nat.{le-refl}
 use native.Mathlib.Decide.{decLt}
 use borrow.Author.Tests.{lt-leb}
 use lib.Dec.{T, eqb, eqb→eq, eqb·suc-zero}
-use lib.ListN.{length, getD}
+use lib.ListN.{length}
 use lib.Seq.{take-append-seam}
-use Rattle.lists.proofs.Select.{getD-mem}
-use Rattle.lists.specs.Prelude.{begins, lastBelow, lastOf}
+use Rattle.lists.specs.Prelude.{lastBelow, lastOf}
 use Rattle.lists.proofs.Order.{T-true, true-T}
-use Rattle.lists.proofs.Lists.{mem-any, all-mem, eq-same, lastBelow-ext, lastBelow-le, lastBelow-passes, lastBelow-none}
-use Rattle.cartesian.specs.Distances.{distances, cut, suffixDistances}
-use Rattle.realization.specs.Realizable.{realizable}
-use Rattle.realization.specs.LeastRealization.{leastRealization}
+use Rattle.lists.proofs.Lists.{lastBelow-ext, lastBelow-le, lastBelow-passes, lastBelow-none, length-snoc}
+use Rattle.cartesian.specs.Cartesian.{distances, cut}
+use Rattle.cartesian.specs.Windows.{suffixDistances}
+use Rattle.realization.specs.Realization.{realizable, leastRealization}
 use Rattle.realization.proofs.LeastRealization.{length-least}
 use Rattle.pattern_set.specs.PatternSet.{PatternSet, goodSet}
-use Rattle.matching.specs.Heads.{isHead, headTree, failure, chainWithin, chain}
+use Rattle.matching.specs.Matching.{isHead, headTree, failure, chainWithin, chain}
 use Rattle.matching.proofs.Heads.{headTree-isHead, head-shorter, failure-next}
-use Rattle.model.specs.AutomatonWords.{endsAt, firstEnd}
-use Rattle.model.specs.Step.{extended, advanceWithin, advance}
-use Rattle.model.proofs.Nodes.{good-length, good-realizable, head-realizable, empty-isHead, failure-isHead, failure-shorter}
-use Rattle.automaton_records.proofs.More.{length-snoc, length-suffix, suffix-snoc, suffix-realized, suffix-all}
-use Rattle.set_access.proofs.Laws.{realizable-le-place}
+use Rattle.model.specs.Automaton.{endsAt, firstEnd}
+use Rattle.model.specs.Search.{extended, advanceWithin, advance}
+use Rattle.model.proofs.Nodes.{head-realizable, empty-isHead, failure-isHead, failure-shorter}
+use Rattle.automaton_records.proofs.More.{length-suffix, suffix-snoc, suffix-realized, suffix-all}
+use Rattle.pattern_set.proofs.Good.{good-realizable}
+use Rattle.model.proofs.Chains.{zero-isHead, chain-enough}
 
 -- ---- heads of one distance
-
--- every pattern begins with 0
-pub zero-isHead : (ps : PatternSet) → T (goodSet ps) → 0 < length ps → T (isHead ps (0 ∷ []))
-unfolding isHead
-zero-isHead ps g z =
-    let p = getD ps 0 [] in
-    let m = getD-mem ps 0 [] z in
-    let l = good-length ps g p m in
-    mem-any (λ p. begins p (0 ∷ [])) ps p m (go p (l .0) (realizable-le-place p (all-mem realizable ps (good-realizable ps g) p m) 0))
-  where
-    go : (p : List ℕ) → 0 < length p → getD p 0 0 ≤ 0 → T (begins p (0 ∷ []))
-    go [] l e = absurd (let y : ⊥ = omega arith in y)
-    go (x ∷ p) l e = eq-same (x ∷ []) (0 ∷ []) (ap (λ (x : ℕ). x ∷ []) (let y : x ≡ 0 = omega arith in y))
 
 -- the empty head goes on with any distance, cut
 empty-extends : (ps : PatternSet) → T (goodSet ps) → 0 < length ps → (v : ℕ) → T (isHead ps (extended [] v))
@@ -195,18 +182,6 @@ module _ (ps : PatternSet) (g : T (goodSet ps)) (z : 0 < length ps) (v : ℕ) wh
           advance-falls m f n ∙ advance-enough m (length (failure ps f)) (failure ps f) (omega arith) (le-refl (length (failure ps f)))
 
 -- ---- the output link
-
-chain-enough : (ps : PatternSet) (j k : ℕ) (h : List ℕ) → length h ≤ j → length h ≤ k → chainWithin j ps h ≡ chainWithin k ps h
-unfolding chainWithin
-chain-enough ps zero zero h a b = refl
-chain-enough ps zero (suc k) [] a b = refl
-chain-enough ps zero (suc k) (x ∷ h) a b = absurd (let y : ⊥ = omega arith in y)
-chain-enough ps (suc j) zero [] a b = refl
-chain-enough ps (suc j) zero (x ∷ h) a b = absurd (let y : ⊥ = omega arith in y)
-chain-enough ps (suc j) (suc k) [] a b = refl
-chain-enough ps (suc j) (suc k) (x ∷ h) a b =
-    let s = failure-shorter ps (x ∷ h) (omega arith) in
-    rw (eqb·suc-zero (length h)) (ap (λ (l : List (List ℕ)). (x ∷ h) ∷ l) (chain-enough ps j k (failure ps (x ∷ h)) (omega arith) (omega arith)))
 
 -- THE OUTPUT: the head itself where a pattern ends there
 pub output-here : (ps : PatternSet) (h : List ℕ) → (endsAt ps h ≡ 0 → ⊥) → firstEnd ps (chain ps h) ≡ h

@@ -14,9 +14,8 @@ use Rattle.lists.proofs.Select.{getD-mem}
 use Rattle.lists.specs.Prelude.{begins}
 use Rattle.lists.proofs.Lists.{same-eq, eq-same, mem-any}
 use Rattle.pattern_set.specs.PatternSet.{PatternSet, goodSet}
-use Rattle.matching.specs.Heads.{isHead}
-use Rattle.model.specs.Nodes.{before, nodes, headOf, nodeOf}
-use Rattle.model.specs.AutomatonWords.{order, sharedAt, endsAt, children, firstChild}
+use Rattle.matching.specs.Matching.{isHead}
+use Rattle.model.specs.Automaton.{before, nodes, headOf, nodeOf, order, sharedAt, endsAt, children, firstChild}
 use Rattle.model.proofs.Before.{before-irrefl, take-before}
 use Rattle.model.proofs.Nodes.{head-node, node-head, nodes-rise}
 use Rattle.model.proofs.Children.{child-head, child-number}

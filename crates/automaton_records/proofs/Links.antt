@@ -7,12 +7,11 @@ use Prim.Native.Nat.{ℕ, _+_, _-_, _≤_, _<_}
 use native.Mathlib.Omega.{arith}
 use lib.Dec.{T}
 use lib.ListN.{length}
-use Rattle.cartesian.specs.Distances.{cut}
+use Rattle.cartesian.specs.Cartesian.{cut}
 use Rattle.pattern_set.specs.PatternSet.{PatternSet, goodSet}
-use Rattle.matching.specs.Heads.{isHead, failure, chain}
-use Rattle.model.specs.Nodes.{nodes, headOf, nodeOf}
-use Rattle.model.specs.AutomatonWords.{firstChild, endsAt, firstEnd}
-use Rattle.model.specs.Step.{extended, advance}
+use Rattle.matching.specs.Matching.{isHead, failure, chain}
+use Rattle.model.specs.Automaton.{nodes, headOf, nodeOf, firstChild, endsAt, firstEnd}
+use Rattle.model.specs.Search.{extended, advance}
 use Rattle.model.proofs.Nodes.{head-node, node-head, node-root, node-longer, failure-isHead, failure-smaller}
 use Rattle.model.proofs.Children.{child-number, firstChild-within}
 use Rattle.automaton_lookup.specs.Made.{childOf}

@@ -4,23 +4,14 @@ use mathlib.Core.List.{List, [], _∷_, _++_}
 use Prim.Native.Nat.{ℕ, suc, _+_, _-_, _≤_}
 use native.Mathlib.Omega.{arith}
 use lib.Dec.{T}
-use lib.ListN.{length, drop, length-append}
-use lib.Seq.{drop-append-le}
+use lib.ListN.{length}
 use Rattle.lists.specs.Prelude.{lastOf}
-use Rattle.lists.proofs.Lists.{length-lastOf, lastOf-all}
-use Rattle.cartesian.specs.Distances.{distances, cut, cutFrom, suffixDistances}
+use Rattle.lists.proofs.Lists.{length-lastOf, lastOf-all, lastOf-snoc}
+use Rattle.cartesian.specs.Cartesian.{distances, cut, cutFrom}
+use Rattle.cartesian.specs.Windows.{suffixDistances}
 use Rattle.cartesian.proofs.Window.{length-cutFrom, distances-lastOf}
-use Rattle.realization.specs.Realizable.{realizable}
-use Rattle.realization.specs.LeastRealization.{leastRealization}
+use Rattle.realization.specs.Realization.{realizable, leastRealization}
 use Rattle.realization.proofs.LeastRealization.{least-distances, length-least}
-
-pub length-snoc : {A : Type 0} (xs : List A) (x : A) → length (xs ++ (x ∷ [])) ≡ suc (length xs)
-length-snoc xs x = length-append xs (x ∷ []) ∙ (omega arith)
-
-pub lastOf-snoc : {A : Type 0} (m : ℕ) (xs : List A) (x : A) → m ≤ length xs → lastOf (suc m) (xs ++ (x ∷ [])) ≡ lastOf m xs ++ (x ∷ [])
-lastOf-snoc m xs x h =
-    let e : length (xs ++ (x ∷ [])) - suc m ≡ length xs - m = rw length-append (omega arith) in
-    ap (λ (k : ℕ). drop k (xs ++ (x ∷ []))) e ∙ drop-append-le (length xs - m) xs (x ∷ []) (omega arith)
 
 cutFrom-snoc : (i : ℕ) (ds : List ℕ) (v : ℕ) → cutFrom i (ds ++ (v ∷ [])) ≡ cutFrom i ds ++ (cut (i + length ds) v ∷ [])
 unfolding cutFrom

@@ -8,9 +8,8 @@ use native.Mathlib.Numerals.{sub-one}
 use lib.Dec.{T}
 use lib.ListN.{length, getD}
 use Rattle.pattern_set.specs.PatternSet.{PatternSet, goodSet}
-use Rattle.matching.specs.Heads.{isHead}
-use Rattle.model.specs.Nodes.{nodes, headOf, nodeOf}
-use Rattle.model.specs.AutomatonWords.{children, firstChild, endsAt}
+use Rattle.matching.specs.Matching.{isHead}
+use Rattle.model.specs.Automaton.{nodes, headOf, nodeOf, children, firstChild, endsAt}
 use Rattle.model.proofs.Nodes.{node-head}
 use Rattle.model.proofs.Children.{child-is, parentNode, parentNode-lt, parentNode-child, child-number, child-larger, firstChild-within}
 use Rattle.model.proofs.Order.{firstPlace}

@@ -6,9 +6,8 @@ use native.Mathlib.Omega.{arith}
 use lib.Dec.{T}
 use lib.ListN.{length, getD, length-append}
 use Rattle.pattern_set.specs.PatternSet.{PatternSet, goodSet}
-use Rattle.matching.specs.Heads.{failure, chain}
-use Rattle.model.specs.Nodes.{nodes, headOf, nodeOf}
-use Rattle.model.specs.AutomatonWords.{endsAt, firstEnd, children, firstChild, recordOf}
+use Rattle.matching.specs.Matching.{failure, chain}
+use Rattle.model.specs.Automaton.{nodes, headOf, nodeOf, endsAt, firstEnd, children, firstChild, recordOf}
 use Rattle.model.proofs.Children.{child-head}
 use Rattle.model.proofs.Order.{firstPlace}
 use Rattle.automaton_records.proofs.Parents.{parent-node}

@@ -8,19 +8,19 @@ use lib.Dec.{T}
 use lib.ListN.{length, drop-of-length-le}
 use Rattle.lists.specs.Prelude.{tabulate, same, lastBelow}
 use Rattle.lists.proofs.Lists.{same-eq}
-use Rattle.cartesian.specs.Distances.{distances}
-use Rattle.realization.specs.LeastRealization.{leastRealization}
+use Rattle.cartesian.specs.Cartesian.{distances}
+use Rattle.realization.specs.Realization.{leastRealization}
 use Rattle.pattern_set.specs.PatternSet.{PatternSet, goodSet}
-use Rattle.matching.specs.Heads.{isHead, failure}
-use Rattle.model.specs.Nodes.{before, headOf}
-use Rattle.model.specs.AutomatonWords.{endsAt, children, firstChild, recordOf}
+use Rattle.matching.specs.Matching.{isHead, failure}
+use Rattle.model.specs.Automaton.{before, headOf, endsAt, children, firstChild, recordOf}
 use Rattle.model.proofs.More.{select-empty}
 use Rattle.model.proofs.Before.{before-nil}
 use Rattle.model.proofs.Nodes.{node-head, node-root, good-length, head-realizable}
 use Rattle.model.proofs.Children.{child-head, child-labels-rise, child-number}
 use Rattle.model.proofs.Order.{firstPlace}
 use Rattle.set_access.proofs.Laws.{realizable-le-place}
-use Rattle.automaton_records.proofs.Failures.{zero-isHead, output-root}
+use Rattle.automaton_records.proofs.Failures.{output-root}
+use Rattle.model.proofs.Chains.{zero-isHead}
 
 failure-empty : (ps : PatternSet) → failure ps [] ≡ []
 unfolding failure lastBelow distances tabulate

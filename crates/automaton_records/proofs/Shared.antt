@@ -14,8 +14,9 @@ use Rattle.lists.specs.Prelude.{begins}
 use Rattle.lists.proofs.Order.{T-true}
 use Rattle.lists.proofs.Lists.{same-eq, eq-same}
 use Rattle.pattern_set.specs.PatternSet.{PatternSet}
-use Rattle.model.specs.AutomatonWords.{order, common, sharedAt}
+use Rattle.model.specs.Automaton.{order, common, sharedAt}
 use Rattle.model.proofs.Order.{firstPlace, beginsAt, begins-within, begins-at-place, place-of-begins}
+use Rattle.model.proofs.Common.{shares-front}
 
 -- the pattern at place i of the order
 abbrev pub patternAt : PatternSet → ℕ → List ℕ
@@ -55,10 +56,6 @@ begins-length p h t = omega (arith, ap length (same-eq (take (length h) p) h t),
 begins-next : (p q h : List ℕ) → T (begins p h) → length h ≤ common p q → T (begins q h)
 begins-next p q h t l = eq-same (take (length h) q) h (sym (common-front (length h) p q l) ∙ same-eq (take (length h) p) h t)
 
-next-common : (p q h : List ℕ) → T (begins p h) → T (begins q h) → length h ≤ common p q
-next-common p q h s t =
-    front-common (length h) p q (begins-length p h s) (same-eq (take (length h) p) h s ∙ sym (same-eq (take (length h) q) h t)) (begins-length q h t)
-
 shared-is : (ps : PatternSet) (i : ℕ) → 0 < i → sharedAt ps i ≡ common (patternAt ps (i - 1)) (patternAt ps i)
 unfolding sharedAt
 shared-is ps zero h = absurd (let z : ⊥ = omega arith in z)
@@ -74,7 +71,7 @@ interval-more ps h i l k m s =
 pub interval-shared : (ps : PatternSet) (h : List ℕ) (i : ℕ) → firstPlace ps h < i → i < firstPlace ps h + beginsAt ps h → length h ≤ sharedAt ps i
 interval-shared ps h i l k =
     omega
-    (arith, shared-is ps i (omega arith), next-common (patternAt ps (i - 1)) (patternAt ps i) h (begins-at-place ps h (i - 1) (omega arith) (omega arith)) (begins-at-place ps h i (omega arith) k))
+    (arith, shared-is ps i (omega arith), shares-front (patternAt ps (i - 1)) (patternAt ps i) h (begins-at-place ps h (i - 1) (omega arith) (omega arith)) (begins-at-place ps h i (omega arith) k))
 
 pub interval-stops : (ps : PatternSet) (h : List ℕ) (i : ℕ) → firstPlace ps h < i → i ≤ firstPlace ps h + beginsAt ps h → sharedAt ps i < length h → i ≡ firstPlace ps h + beginsAt ps h
 interval-stops ps h i l k s = go (decLt i (firstPlace ps h + beginsAt ps h))

@@ -4,8 +4,7 @@ use Prim.Native.Nat.{ℕ, _+_, _≤_, _<_}
 use native.Mathlib.Omega.{arith}
 use lib.ListN.{length}
 use Rattle.pattern_set.specs.PatternSet.{PatternSet}
-use Rattle.model.specs.Nodes.{nodes, headOf}
-use Rattle.model.specs.AutomatonWords.{endsAt}
+use Rattle.model.specs.Automaton.{nodes, headOf, endsAt}
 use Rattle.model.proofs.Nodes.{node-head, head-length}
 use Rattle.model.proofs.Lengths.{length-nodes}
 use Rattle.model.proofs.Order.{firstPlace, ends-within, beginsAt, begins-within, beginsAt-head}

@@ -10,7 +10,7 @@ use lib.Signed.{leZ}
 use lib.ListN.{length, getD, take}
 use lib.Seq.{take-suc, take-length}
 use Rattle.lists.specs.Prelude.{tabulate, lastBelow}
-use Rattle.cartesian.specs.Distances.{seek, gap, distanceAt, distances}
+use Rattle.cartesian.specs.Cartesian.{seek, gap, distanceAt, distances}
 use Rattle.cartesian.proofs.Seek.{seek-le}
 
 -- back rev x k: rev is what stands before x, nearest first; k is the distance of rev's head

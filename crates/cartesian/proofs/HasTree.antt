@@ -12,7 +12,7 @@ use lib.Signed.{leZ, ltZ, _≤ℤ_, _<ℤ_, ltZ-yes, ltZ-no, ≤ℤ-refl, <ℤ-�
 use lib.ListN.{length, getD, take, drop, length-take, length-drop}
 use lib.Seq.{getD-take, getD-drop, split-at}
 use Rattle.lists.proofs.Order.{T-true, leZ-not-ltZ, le-leZ, <ℤ-≤ℤ}
-use Rattle.cartesian.specs.Tree.{Tree, leaf, node, leftmostFrom, leftmost, treeWithin, tree}
+use Rattle.cartesian.specs.Cartesian.{Tree, leaf, node, leftmostFrom, leftmost, treeWithin, tree}
 
 -- of two equal values the earlier one is the root
 pub equal-tree : (x : ℤ) → tree (x ∷ x ∷ []) ≡ node leaf (node leaf leaf)

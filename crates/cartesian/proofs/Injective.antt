@@ -7,8 +7,7 @@ use native.Mathlib.Omega.{arith}
 use native.Mathlib.Nat.{add-zero, add-suc, le-refl}
 use lib.IntN.{ℤ}
 use lib.ListN.{length}
-use Rattle.cartesian.specs.Distances.{distances}
-use Rattle.cartesian.specs.Tree.{Tree, leaf, node}
+use Rattle.cartesian.specs.Cartesian.{distances, Tree, leaf, node}
 use Rattle.cartesian.proofs.HasTree.{HasTree}
 use Rattle.cartesian.proofs.Structure.{orElse, lift, treeDistances, distances-tree}
 

@@ -6,8 +6,7 @@ use mathlib.Core.List.{List}
 use lib.IntN.{ℤ}
 use lib.Dec.{T}
 use Rattle.lists.proofs.Lists.{and-split, and-join}
-use Rattle.cartesian.specs.Tree.{Tree, leaf, node, tree, sameTree}
-use Rattle.cartesian.specs.Distances.{distances}
+use Rattle.cartesian.specs.Cartesian.{Tree, leaf, node, tree, sameTree, distances}
 use Rattle.cartesian.proofs.HasTree.{HasTree, tree-has}
 use Rattle.cartesian.proofs.Structure.{same-tree}
 use Rattle.cartesian.proofs.Injective.{same-distances}

@@ -14,7 +14,7 @@ use lib.Seq.{getD-drop}
 use Rattle.lists.specs.Prelude.{lastBelow, tabulate}
 use Rattle.lists.proofs.Lists.{lastBelow-le, lastBelow-no, length-tabulate, getD-tabulate}
 use Rattle.lists.proofs.Order.{T-true, leZ-not-ltZ, le-leZ, lt-leZ, <ℤ-≤ℤ}
-use Rattle.cartesian.specs.Distances.{seek, gap, distanceAt, distances, cut}
+use Rattle.cartesian.specs.Cartesian.{seek, gap, distanceAt, distances, cut}
 
 -- of two equal values the later one does not close the earlier one
 pub equal-distances : (x : ℤ) → distances (x ∷ x ∷ []) ≡ 0 ∷ 1 ∷ []

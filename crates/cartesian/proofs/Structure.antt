@@ -5,12 +5,11 @@ use mathlib.Core.List.{List, [], _∷_, _++_}
 use Prim.Native.Nat.{ℕ, zero, suc, _+_, _≤_, _<_}
 use native.Mathlib.Omega.{arith}
 use native.Mathlib.Nat.{add-zero}
-use lib.IntN.{ℤ, pos}
-use lib.Signed.{leZ, ltZ, _≤ℤ_, _<ℤ_}
-use lib.ListN.{length, length-append}
+use lib.IntN.{ℤ}
+use lib.Signed.{leZ, _≤ℤ_, _<ℤ_}
+use lib.ListN.{length, getD, length-append}
 use Rattle.lists.proofs.Order.{le-leZ, lt-leZ}
-use Rattle.cartesian.specs.Tree.{Tree, leaf, node, size}
-use Rattle.cartesian.specs.Distances.{distances}
+use Rattle.cartesian.specs.Cartesian.{Tree, leaf, node, size, distances}
 use Rattle.cartesian.proofs.ByList.{back, distsFrom, onto, dists-app, distances-list}
 use Rattle.cartesian.proofs.HasTree.{Over, over-nil, over-cons, HasTree, empty, root}
 
@@ -23,6 +22,12 @@ orElse (suc a) b = suc a
 unfoldable pub lift : ℕ → List ℕ → List ℕ
 lift k [] = []
 lift k (d ∷ ds) = orElse d k ∷ lift (suc k) ds
+
+pub getD-lift : (k : ℕ) (ds : List ℕ) (j : ℕ) → j < length ds → getD (lift k ds) j 0 ≡ orElse (getD ds j 0) (k + j)
+unfolding lift
+getD-lift k [] j h = absurd (let z : ⊥ = omega arith in z)
+getD-lift k (d ∷ ds) zero h = rw add-zero refl
+getD-lift k (d ∷ ds) (suc j) h = let e : k + suc j ≡ suc k + j = omega arith in rw e (getD-lift (suc k) ds j (omega arith))
 
 -- the distances of a tree: the root has 0, and what is on its right and had 0 now reaches the root
 unfoldable pub treeDistances : Tree → List ℕ

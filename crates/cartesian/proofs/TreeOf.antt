@@ -12,9 +12,7 @@ use lib.ListN.{length, getD, take, drop, length-append, length-take, length-drop
 use lib.Seq.{take-append-seam, drop-append-add, getD-append-seam, getD-append-add}
 use Rattle.lists.specs.Prelude.{lastBelow}
 use Rattle.lists.proofs.Lists.{lastBelow-le, lastBelow-is}
-use Rattle.cartesian.specs.Tree.{Tree, leaf, node, tree}
-use Rattle.cartesian.specs.Distances.{distances, cut, cutFrom}
-use Rattle.cartesian.specs.TreeOf.{rootPlace, treeOfWithin, treeOf}
+use Rattle.cartesian.specs.Cartesian.{Tree, leaf, node, tree, distances, cut, cutFrom, rootPlace, treeOfWithin, treeOf}
 use Rattle.cartesian.proofs.HasTree.{tree-has}
 use Rattle.cartesian.proofs.Structure.{orElse, lift, treeDistances, distances-tree}
 use Rattle.cartesian.proofs.Injective.{NZ, lift-nz, Ok, treeDistances-ok}

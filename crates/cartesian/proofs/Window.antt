@@ -8,7 +8,8 @@ use lib.IntN.{ℤ, pos}
 use lib.ListN.{length, getD, take, drop, length-drop}
 use lib.Seq.{ext-getD, getD-drop}
 use Rattle.lists.specs.Prelude.{lastOf}
-use Rattle.cartesian.specs.Distances.{distanceAt, distances, cut, cutFrom, suffixDistances}
+use Rattle.cartesian.specs.Cartesian.{distanceAt, distances, cut, cutFrom}
+use Rattle.cartesian.specs.Windows.{suffixDistances}
 use Rattle.cartesian.proofs.Seek.{length-distances, getD-distances, distanceAt-drop}
 use Rattle.cartesian.proofs.ByList.{distances-take}
 

@@ -1,4 +1,3 @@
 -- The root of the crate's definitions.
-pub mod Tree
-pub mod Distances
-pub mod TreeOf
+pub mod Cartesian
+pub mod Windows

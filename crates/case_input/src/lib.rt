@@ -1,5 +1,5 @@
 // Numbers of a test program's input: arrays read from it, and arrays compared with it. All numbers are decimal.
-ghost use Prim.Native.Nat.{_≤_};
+ghost use Prim.Native.Nat.{_≤_, _<_};
 
 // A number of the input, and the place behind it.
 pub struct Token {
@@ -105,11 +105,29 @@ fn word(n: Token) -> u32 {
     n.size as u32
 }
 
-// A number as a value; the only one below 0 in the input is the lowest of all.
+// The value below zero by one more than k.
+fn below_zero(k: u64) -> i32
+    requires { ⌜ k < 2147483648 ⌝ }
+{
+    -1 - (k as i32)
+}
+
+// A size below zero as a value.
+fn negative(size: u64) -> i32 {
+    if size == 0 {
+        return 0;
+    }
+    if size > 2147483648 {
+        return -2147483648;
+    }
+    below_zero(size - 1)
+}
+
+// A number as a value.
 fn value(n: Token) -> i32 {
     let size = n.size;
     if n.negative {
-        return -2147483648;
+        return negative(size);
     }
     if size > 2147483647 {
         return 2147483647;
@@ -181,4 +199,53 @@ pub fn same_values(s: &[u8], from: usize, a: &[i32]) -> Outcome
         i += 1;
     }
     Outcome { at, good }
+}
+
+// A value that stands in the input so many times more, and the place behind it.
+struct Run {
+    at: usize,
+    left: u64,
+    value: i32,
+}
+
+// The same value once more, or the first of the next run, which has at least one.
+fn next_value(s: &[u8], r: Run) -> Run
+    ensures { λ n. ⌜ r .at ≤ n .at ⌝ }
+{
+    if r.left > 0 {
+        return Run {
+            at: r.at,
+            left: r.left - 1,
+            value: r.value,
+        };
+    }
+    let count = number(s, r.at);
+    let x = number(s, count.at);
+    let left = if count.size > 0 { count.size - 1 } else { 0 };
+    Run {
+        at: x.at,
+        left,
+        value: value(x),
+    }
+}
+
+// Whether the next runs of the input, each told by its length and its value, are the values of the array.
+pub fn same_runs(s: &[u8], from: usize, a: &[i32]) -> Outcome
+    ensures { λ r. ⌜ from ≤ r .at ⌝ }
+{
+    let mut run = Run {
+        at: from,
+        left: 0,
+        value: 0,
+    };
+    let mut good = true;
+    let mut i = 0;
+    while i < a.len() {
+        run = next_value(s, run);
+        if run.value != a[i] {
+            good = false;
+        }
+        i += 1;
+    }
+    Outcome { at: run.at, good }
 }

@@ -6,7 +6,7 @@ ghost use lib.ListN.{length, getD, take, drop};
 ghost use lib.IntN.{pos};
 ghost use lib.Signed.{leZ};
 ghost use Rattle.lists.specs.Prelude.{tabulate};
-ghost use Rattle.cartesian.specs.Distances.{seek, distanceAt, distances};
+ghost use Rattle.cartesian.specs.Cartesian.{seek, distanceAt, distances};
 
 fn wide(x: u32) -> usize
     ensures { λ r. ⌜ r ≡ x ⌝ }

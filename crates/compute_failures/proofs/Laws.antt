@@ -16,15 +16,13 @@ use lib.Seq.{length-take-le, getD-take, getD-drop, ext-getD}
 use Rattle.lists.specs.Prelude.{tabulate, lastBelow, lastOf}
 use Rattle.lists.proofs.Order.{true-T}
 use Rattle.lists.proofs.Lists.{getD-tabulate, lastBelow-le, lastBelow-passes, lastBelow-none, lastBelow-skip}
-use Rattle.cartesian.specs.Tree.{tree, sameTree}
-use Rattle.cartesian.specs.Distances.{distances, cut, suffixDistances}
+use Rattle.cartesian.specs.Cartesian.{tree, sameTree, distances, cut}
+use Rattle.cartesian.specs.Windows.{suffixDistances}
 use Rattle.cartesian.proofs.Seek.{getD-distances, distance-le}
 use Rattle.cartesian.proofs.ByList.{distances-take}
 use Rattle.cartesian.proofs.Window.{distances-lastOf, length-cutFrom, getD-cutFrom}
 use Rattle.cartesian.proofs.Matching.{trees-iff-distances, sameTree-eq, eq-sameTree}
-use Rattle.realization.specs.Realizable.{realizable}
-use Rattle.realization.specs.LeastRealization.{leastRealization}
-use Rattle.realization.specs.FailureLength.{failureLength}
+use Rattle.realization.specs.Realization.{realizable, leastRealization, failureLength}
 use Rattle.realization.proofs.LeastRealization.{least-distances, length-least}
 
 -- has the tail of m values of the head of n values the tree of the head of m values

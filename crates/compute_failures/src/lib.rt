@@ -6,9 +6,8 @@ ghost use Prim.Native.Nat.{suc, _≤_, _<_};
 ghost use lib.Dec.{eqb};
 ghost use lib.ListN.{length, getD, take, drop};
 ghost use Rattle.lists.specs.Prelude.{tabulate};
-ghost use Rattle.cartesian.specs.Distances.{cut};
-ghost use Rattle.realization.specs.Realizable.{realizable};
-ghost use Rattle.realization.specs.FailureLength.{failureLength, failureLengths};
+ghost use Rattle.cartesian.specs.Cartesian.{cut};
+ghost use Rattle.realization.specs.Realization.{realizable, failureLength, failureLengths};
 
 fn wide(x: u32) -> usize
     ensures { λ r. ⌜ r ≡ x ⌝ }

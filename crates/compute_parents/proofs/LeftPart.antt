@@ -7,7 +7,7 @@ use Prim.Native.Nat.{ℕ, zero, suc, _+_, _-_, _≤_, _<_}
 use native.Mathlib.Omega.{arith}
 use lib.ListN.{getD}
 use Rattle.lists.proofs.Places.{Place, before, here, after, place}
-use Rattle.cartesian.specs.Tree.{Tree, leaf, node, size}
+use Rattle.cartesian.specs.Cartesian.{Tree, leaf, node, size}
 use Rattle.global_parents.specs.GlobalParents.{rootOf}
 use Rattle.global_parents.proofs.Prefix.{leftChildren}
 use Rattle.global_parents.proofs.Parts.{child-left, child-root, child-right, distance-left, distance-root}

@@ -5,7 +5,7 @@ use Prim.Native.Nat.{ℕ, zero, suc, _+_, _-_, _≤_, _<_}
 use native.Mathlib.Omega.{arith}
 use lib.ListN.{getD}
 use Rattle.lists.proofs.Places.{Place, before, here, after, place}
-use Rattle.cartesian.specs.Tree.{Tree, leaf, node, size}
+use Rattle.cartesian.specs.Cartesian.{Tree, leaf, node, size}
 use Rattle.cartesian.proofs.Structure.{orElse, treeDistances}
 use Rattle.global_parents.proofs.Parts.{distance-left, distance-root, distance-right}
 

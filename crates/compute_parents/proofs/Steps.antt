@@ -13,7 +13,7 @@ use lib.ListN.{length, getD, drop, set, length-append, length-drop}
 use lib.Seq.{set-append-left}
 use Rattle.lists.specs.Prelude.{tabulate, lastBelow}
 use Rattle.lists.proofs.Lists.{and-split, lastBelow-zero, length-tabulate, tabulate-ext, tabulate-more}
-use Rattle.realization.specs.Realizable.{realizable}
+use Rattle.realization.specs.Realization.{realizable}
 use Rattle.global_parents.specs.GlobalParents.{isPrefixChild, globalParent, globalParents}
 use Rattle.compute_parents.specs.Steps.{leftStart, isRootFrom, prefixChild, storedAt, withPlace, parentBelow}
 use Rattle.compute_parents.proofs.More.{tabulate-set}

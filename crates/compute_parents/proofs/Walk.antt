@@ -14,9 +14,9 @@ use lib.ListN.{length, getD}
 use Rattle.lists.specs.Prelude.{lastBelow}
 use Rattle.lists.proofs.Order.{T-true}
 use Rattle.lists.proofs.Lists.{lastBelow-le, lastBelow-is, lastBelow-skip}
-use Rattle.cartesian.specs.Tree.{Tree, size}
+use Rattle.cartesian.specs.Cartesian.{Tree, size}
 use Rattle.cartesian.proofs.Structure.{treeDistances, length-treeDistances}
-use Rattle.realization.specs.Realizable.{realizable}
+use Rattle.realization.specs.Realization.{realizable}
 use Rattle.realization.proofs.Realizable.{realizable-tree}
 use Rattle.global_parents.proofs.Prefix.{treeOf-take, last-prefix}
 use Rattle.compute_parents.specs.Steps.{afterLink, leftStart, isRootFrom, prefixChild}

@@ -12,7 +12,8 @@ use Rattle.lists.specs.Prelude.{lastBelow}
 use Rattle.lists.proofs.Lists.{test-ext, lastBelow-le, length-tabulate, getD-tabulate}
 use Rattle.lists.proofs.Order.{T-true, true-T}
 use Rattle.lists.proofs.Places.{all-below, below-all}
-use Rattle.global_parents.specs.GlobalParents.{isPrefixChild, globalParent, globalParents, passesAt, passes}
+use Rattle.global_parents.specs.GlobalParents.{isPrefixChild, globalParent, globalParents}
+use Rattle.global_parents.specs.Passes.{passesAt, passes}
 use Rattle.global_parents.proofs.Comparison.{passes-not-above, passes-below, below-passes, not-above-passes}
 use Rattle.compute_parents.specs.Passes.{passesParents, ParentsArePlaces}
 

@@ -5,7 +5,7 @@ use Prim.Native.Nat.{ℕ, _<_}
 use lib.IntN.{ℤ}
 use lib.ListN.{length, getD}
 use Rattle.lists.specs.Prelude.{tabulate, all}
-use Rattle.global_parents.specs.GlobalParents.{passesAt}
+use Rattle.global_parents.specs.Passes.{passesAt}
 
 -- every value of a window passes the comparison with the value at its place's parent
 unfoldable pub passesParents : List ℕ → List ℤ → Bool

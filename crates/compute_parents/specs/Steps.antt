@@ -6,7 +6,7 @@ use Prim.Native.Nat.{ℕ, zero, suc, _+_, _-_}
 use lib.Dec.{eqb, ltb}
 use lib.ListN.{getD, set, take}
 use Rattle.lists.specs.Prelude.{lastBelow}
-use Rattle.cartesian.specs.TreeOf.{treeOf}
+use Rattle.cartesian.specs.Cartesian.{treeOf}
 use Rattle.global_parents.specs.GlobalParents.{lastLeftChild, isPrefixChild}
 
 -- the place after the one that j leads to by the distance d; 0 where it leads to none

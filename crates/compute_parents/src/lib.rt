@@ -5,8 +5,9 @@ ghost use mathlib.Core.List.{_++_};
 ghost use Prim.Native.Nat.{_+_, _-_, _≤_, _<_};
 ghost use lib.ListN.{length, getD, drop};
 ghost use Rattle.lists.specs.Prelude.{lastBelow};
-ghost use Rattle.realization.specs.Realizable.{realizable};
-ghost use Rattle.global_parents.specs.GlobalParents.{globalParents, passesAt};
+ghost use Rattle.realization.specs.Realization.{realizable};
+ghost use Rattle.global_parents.specs.GlobalParents.{globalParents};
+ghost use Rattle.global_parents.specs.Passes.{passesAt};
 ghost use Rattle.compute_parents.specs.Passes.{passesParents, ParentsArePlaces};
 ghost use Rattle.compute_parents.specs.Steps.{leftStart, isRootFrom, withPlace};
 

@@ -11,7 +11,7 @@ use lib.Dec.{T}
 use lib.ListN.{length, getD, drop, set, drop-of-length-le}
 use lib.Seq.{drop-cons}
 use Rattle.lists.proofs.Lists.{tabulate-more}
-use Rattle.realization.specs.Realizable.{realizable}
+use Rattle.realization.specs.Realization.{realizable}
 use Rattle.realization.proofs.Realizable.{realizable-iff}
 use Rattle.ranking.specs.Rank.{factorial, rankFrom, rank, unrank}
 use Rattle.ranking.proofs.Rank.{rank-lt, realizable-ok}

@@ -5,7 +5,7 @@ ghost use mathlib.Core.Path.{_≡_};
 ghost use Prim.Native.Nat.{suc, _/_, _%_, _<_, _≤_};
 ghost use lib.ListN.{length, drop};
 ghost use Rattle.ranking.specs.Rank.{factorial, rank, unrank};
-ghost use Rattle.realization.specs.Realizable.{realizable};
+ghost use Rattle.realization.specs.Realization.{realizable};
 
 // 0! to 20!, all the factorials that 64 bits hold.
 const FACTORIALS: [u64; 21] = [

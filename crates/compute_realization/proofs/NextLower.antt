@@ -6,7 +6,6 @@ use mathlib.Core.Bool.{true}
 use mathlib.Core.List.{List, [], _∷_, map}
 use Prim.Native.Nat.{ℕ, zero, suc, _+_, _-_, _≤_, _<_}
 use native.Mathlib.Omega.{arith}
-use native.Mathlib.Nat.{add-zero}
 use native.Mathlib.Numerals.{add-one}
 use native.Mathlib.Decide.{decLt}
 use lib.IntN.{pos, _+ℤ_}
@@ -14,12 +13,10 @@ use lib.ListN.{length, getD, List·getD-map, length-map, length-append}
 use lib.Seq.{getD-at}
 use Rattle.lists.proofs.Order.{T-true}
 use Rattle.lists.proofs.Places.{Place, before, here, after, place, getD-before, getD-after}
-use Rattle.cartesian.specs.Tree.{Tree, leaf, node, size}
-use Rattle.cartesian.specs.TreeOf.{treeOf}
-use Rattle.cartesian.proofs.Structure.{orElse, lift, treeDistances, length-treeDistances}
+use Rattle.cartesian.specs.Cartesian.{Tree, leaf, node, size, treeOf}
+use Rattle.cartesian.proofs.Structure.{orElse, lift, treeDistances, length-treeDistances, getD-lift}
 use Rattle.cartesian.proofs.Injective.{Ok, treeDistances-ok}
-use Rattle.realization.specs.Realizable.{realizable}
-use Rattle.realization.specs.LeastRealization.{leftTurns, leastRealization}
+use Rattle.realization.specs.Realization.{realizable, leftTurns, leastRealization}
 use Rattle.realization.proofs.LeastRealization.{treeDistances-treeOf}
 use Rattle.compute_realization.specs.NextLower.{Reaches, IsNext}
 
@@ -29,12 +26,6 @@ length-turns : (t : Tree) → length (leftTurns t) ≡ size t
 unfolding leftTurns size
 length-turns leaf = refl
 length-turns (node l r) = rw (length-append, length-map, length-turns l, length-turns r) refl
-
-getD-lift : (k : ℕ) (ds : List ℕ) (j : ℕ) → j < length ds → getD (lift k ds) j 0 ≡ orElse (getD ds j 0) (k + j)
-unfolding lift
-getD-lift k [] j h = absurd (let z : ⊥ = omega arith in z)
-getD-lift k (d ∷ ds) zero h = rw add-zero refl
-getD-lift k (d ∷ ds) (suc j) h = let e : k + suc j ≡ suc k + j = omega arith in rw e (getD-lift (suc k) ds j (omega arith))
 
 ok-at : (k : ℕ) (ds : List ℕ) (j : ℕ) → Ok k ds → getD ds j 0 ≤ k + j
 ok-at k [] j o = omega arith

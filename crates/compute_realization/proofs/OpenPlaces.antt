@@ -11,7 +11,7 @@ use lib.Dec.{eqb, leb, eqb·suc-suc, eqb·zero-suc}
 use lib.ListN.{length, getD, drop, drop-of-length-le}
 use lib.Seq.{drop-cons}
 use Rattle.lists.specs.Prelude.{any, select}
-use Rattle.realization.specs.Realizable.{leads, opened, walk}
+use Rattle.realization.specs.Realization.{leads, opened, walk}
 use Rattle.compute_realization.specs.OpenPlaces.{openPlaces}
 
 -- ---- which places are among those that are opened

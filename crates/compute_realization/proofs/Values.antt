@@ -15,8 +15,7 @@ use lib.Seq.{take-suc, drop-cons, set-at, append-snoc, length-take-le, drop-at, 
 use mir.Syntax.{w32}
 use mir.Val.{SFits}
 use Rattle.lists.proofs.Order.{T-true}
-use Rattle.realization.specs.Realizable.{realizable}
-use Rattle.realization.specs.LeastRealization.{leastRealization}
+use Rattle.realization.specs.Realization.{realizable, leastRealization}
 use Rattle.realization.proofs.LeastRealization.{length-least, least-bound}
 use Rattle.compute_realization.specs.NextLower.{IsNext}
 

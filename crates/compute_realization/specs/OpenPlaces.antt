@@ -4,7 +4,7 @@ use mathlib.Core.Bool.{true}
 use mathlib.Core.List.{List, []}
 use Prim.Native.Nat.{ℕ, zero, suc, _<_}
 use lib.ListN.{getD}
-use Rattle.realization.specs.Realizable.{leads, opened}
+use Rattle.realization.specs.Realization.{leads, opened}
 
 -- how far back each place is that is open after the first i distances, nearest first
 unfoldable pub openPlaces : List ℕ → ℕ → List ℕ

@@ -8,8 +8,7 @@ ghost use lib.IntN.{pos, _+ℤ_};
 ghost use lib.Signed.{_≤ℤ_};
 ghost use lib.ListN.{length, getD, drop};
 ghost use Rattle.lists.specs.Prelude.{any};
-ghost use Rattle.realization.specs.Realizable.{leads, realizable};
-ghost use Rattle.realization.specs.LeastRealization.{leastRealization};
+ghost use Rattle.realization.specs.Realization.{leads, realizable, leastRealization};
 ghost use Rattle.compute_realization.specs.OpenPlaces.{openPlaces, Led};
 ghost use Rattle.compute_realization.specs.NextLower.{IsNext};
 

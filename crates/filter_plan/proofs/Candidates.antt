@@ -10,8 +10,8 @@ use Rattle.lists.proofs.Select.{getD-mem}
 use Rattle.lists.specs.Prelude.{select}
 use Rattle.lists.proofs.Lists.{tabulate-getD}
 use Rattle.pattern_set.specs.PatternSet.{PatternSet, goodSet}
-use Rattle.matching.specs.Hits.{lastHits, hitsAt, hits}
-use Rattle.model.specs.SearchEntries.{shortest, isCandidate, candidates}
+use Rattle.matching.specs.Matching.{lastHits, hitsAt, hits}
+use Rattle.model.specs.Entries.{shortest, isCandidate, candidates}
 use Rattle.filter_plan.specs.Plan.{hitOrder, isHit}
 use Rattle.filter_plan.proofs.More.{howMany, length-select, howMany-tabulate, howMany-le, flatten-le}
 use Rattle.filter_plan.proofs.HitOrder.{good-number, hitOrder-mem, howMany-hitOrder, lastHits-order}

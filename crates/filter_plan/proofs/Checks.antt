@@ -9,22 +9,20 @@ use lib.IntN.{ℤ}
 use lib.ListN.{length}
 use Rattle.lists.specs.Prelude.{lastOf}
 use Rattle.lists.proofs.Lists.{and-split, and-join, test-ext, lastOf-lastOf}
-use Rattle.cartesian.specs.Tree.{tree, sameTree}
-use Rattle.cartesian.specs.TreeOf.{treeOf}
+use Rattle.cartesian.specs.Cartesian.{tree, sameTree, treeOf}
 use Rattle.cartesian.proofs.Matching.{sameTree-eq, eq-sameTree}
-use Rattle.realization.specs.Realizable.{realizable}
-use Rattle.realization.specs.LeastRealization.{leastRealization}
+use Rattle.realization.specs.Realization.{realizable, leastRealization}
 use Rattle.realization.proofs.LeastRealization.{least-distances, least-tree, length-least}
-use Rattle.global_parents.specs.GlobalParents.{passes}
+use Rattle.global_parents.specs.Passes.{passes}
 use Rattle.global_parents.proofs.Passes.{passes-iff}
 use Rattle.fingerprint.specs.Fingerprint.{fingerprint}
 use Rattle.fingerprint.proofs.Fingerprint.{equal-trees-equal-fingerprints}
 use Rattle.pattern_set.specs.PatternSet.{PatternSet, goodSet}
-use Rattle.matching.specs.Hits.{hasTree}
-use Rattle.model.specs.SearchEntries.{shortest, isCandidate}
+use Rattle.matching.specs.Matching.{hasTree}
+use Rattle.model.specs.Entries.{shortest, isCandidate}
 use Rattle.filter_plan.specs.Plan.{textKey, patternKey, ownLength, isLikely, isHit}
-use Rattle.filter_plan.proofs.HitOrder.{good-pattern}
 use Rattle.filter_plan.proofs.Keys.{textKey-part, patternKey-part}
+use Rattle.pattern_set.proofs.Good.{good-pattern}
 
 -- ---- the length of the shortest pattern
 

@@ -9,24 +9,14 @@ use native.Mathlib.Omega.{arith}
 use native.Mathlib.Decide.{decLt}
 use lib.Dec.{T}
 use lib.ListN.{length, getD, length-append}
-use Rattle.lists.proofs.Select.{getD-mem, mem-select, mem-below, select-append, select-select, tabulate-cons}
+use Rattle.lists.proofs.Select.{getD-mem, mem-select, mem-below, select-select, tabulate-cons}
 use Rattle.lists.specs.Prelude.{tabulate, select}
 use Rattle.lists.proofs.Lists.{tabulate-ext}
 use Rattle.lists.proofs.Members.{flatten-tabulate}
-use Rattle.lists.proofs.Order.{T-true}
 
 -- ---- members
 
 -- ---- select
-
-pub select-none : {A : Type 0} (test : A → Bool) (xs : List A) → ((a : A) → List·Memᴰ a xs → T (test a) → ⊥) → select test xs ≡ []
-unfolding select
-select-none test [] f = refl
-select-none {A} test (x ∷ xs) f = go (test x) refl (select-none test xs (λ a m. f a (List·Memᴰ·tail m)))
-  where
-    go : (b : Bool) → test x ≡ b → select test xs ≡ [] → cond b (x ∷ select test xs) (select test xs) ≡ []
-    go true e ih = absurd (f x (List·Memᴰ·head refl) (T-true (test x) e))
-    go false e ih = ih
 
 -- ---- how many elements pass a test
 

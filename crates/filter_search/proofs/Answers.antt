@@ -10,12 +10,11 @@ use lib.IntN.{ℤ}
 use lib.ListN.{length}
 use lib.Seq.{sets}
 use Rattle.pattern_set.specs.PatternSet.{PatternSet, goodSet, readSet}
-use Rattle.matching.specs.Hits.{hits, hitWords}
+use Rattle.matching.specs.Matching.{hits, hitWords}
 use Rattle.model.specs.Refusals.{firstMet, told, after}
 use Rattle.model.proofs.Refusals.{met, unmet, tellTwo, leave}
 use Rattle.set_arrays.proofs.Checked.{broken-searchable, empty-unsearchable, filled-searchable}
-use Rattle.model.specs.SetEntries.{isBroken, isUnsearchable}
-use Rattle.model.specs.SearchEntries.{candidates, filterEntry}
+use Rattle.model.specs.Entries.{isBroken, isUnsearchable, candidates, filterEntry}
 use Rattle.filter_plan.proofs.Candidates.{hits-candidates}
 use Rattle.set_access.specs.Patterns.{patternsOf, Good}
 use Rattle.filter_search.specs.Search.{foundEntry}

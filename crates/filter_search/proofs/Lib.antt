@@ -1,5 +1,5 @@
 -- The root of the crate's laws.
 pub mod Places
 pub mod Lists
-pub mod Marks
+pub mod MarkedBlocks
 pub mod Answers

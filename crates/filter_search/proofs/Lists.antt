@@ -5,7 +5,7 @@ use mathlib.Core.List.{List, [], _∷_, _++_, map, flatten, append-assoc, append
 use Prim.Native.Nat.{ℕ, zero, suc, min, _+_, _-_, _*_, _/_, _≤_, _<_}
 use native.Mathlib.Omega.{arith}
 use native.Mathlib.Numerals.{add-one}
-use native.Mathlib.Nat.{add-zero}
+use native.Mathlib.Nat.{add-zero, add-mul}
 use lib.Dec.{T}
 use lib.IntN.{ℤ}
 use lib.ListN.{length, getD, take, drop, set, length-append}
@@ -16,12 +16,13 @@ use Rattle.lists.proofs.Select.{tabulate-cons}
 use Rattle.bit_sets.specs.BitSets.{bits}
 use Rattle.bit_sets.proofs.Laws.{bits-zero}
 use Rattle.pattern_set.specs.PatternSet.{PatternSet, goodSet}
-use Rattle.matching.specs.Hits.{hitsAt, hits, hitWords}
+use Rattle.matching.specs.Matching.{hitsAt, hits, hitWords}
 use Rattle.filter_plan.specs.Plan.{isHit}
 use Rattle.filter_tables.specs.Tables.{Ranks}
 use Rattle.filter_windows.specs.Looks.{SetOf}
-use Rattle.filter_search.specs.Search.{isMarked, LikelyMarked, hitsFrom, restHits, rankWords}
-use Rattle.filter_search.proofs.Places.{hits-by-rank, hitsAt-le, none-hit}
+use Rattle.filter_search.specs.Search.{isMarked, HitsMarked, hitsFrom, restHits, rankWords}
+use Rattle.filter_search.proofs.Places.{hits-by-rank, hits-size, hitsAt-le, hitsAt-count, none-hit}
+use Rattle.matching.proofs.HitWords.{length-hitWords, hitWords-append}
 
 -- ---- places
 
@@ -72,35 +73,50 @@ hits-all ps text =
     ap (λ (n : ℕ). flatten (tabulate n (λ i. hitsAt ps text (0 + i)))) e
     ∙ ap flatten (tabulate-ext (length text) (λ i. hitsAt ps text (0 + i)) (hitsAt ps text) (λ i h. ap (hitsAt ps text) (let z : 0 + i ≡ i = omega arith in z)))
 
+-- no more hits than patterns at every place
+hitsFrom-count : (ps : PatternSet) (text : List ℤ) (a n : ℕ) → T (goodSet ps) → length (hitsFrom ps text a n) ≤ n * length ps
+hitsFrom-count ps text a zero g = rw (hitsFrom-none ps text a) (omega arith)
+hitsFrom-count ps text a (suc n) g =
+    let k = length ps in
+    let m : (n + 1) * k ≡ n * k + 1 * k = add-mul n 1 k in
+    let e : suc n * k ≡ n * k + 1 * k = ap (λ (z : ℕ). z * k) (sym (add-one n)) ∙ m in
+    rw (hitsFrom-next ps text a n, length-append (hitsAt ps text a) (hitsFrom ps text (suc a) n), e)
+    (omega (arith, hitsAt-count ps text a g, hitsFrom-count ps text (suc a) n g))
+
+pub hits-count : (ps : PatternSet) (text : List ℤ) (n : ℕ) → T (goodSet ps) → n ≡ length text → length (hits ps text) ≤ n * length ps
+hits-count ps text n g e =
+    let z : length text - 0 ≡ n = omega arith in
+    subst (λ (m : ℕ). m ≤ n * length ps) (ap (λ (v : ℕ). length (hitsFrom ps text 0 v)) (sym z) ∙ ap length (hits-all ps text)) (hitsFrom-count ps text 0 n g)
+
 -- ---- blocks
 
 -- the hits from a block's first place on: those of the block, then the others
-block-step : (ps : PatternSet) (text : List ℤ) (a : ℕ) → a < length text → restHits ps text a ≡ hitsFrom ps text a (min (length text) (a + 32) - a) ++ restHits ps text (a + 32)
+block-step : (ps : PatternSet) (text : List ℤ) (a : ℕ) → a < length text → restHits ps text a ≡ hitsFrom ps text a (min (length text) (a + 64) - a) ++ restHits ps text (a + 64)
 block-step ps text a h =
     let n = length text in
-    let m = min n (a + 32) - a in
-    let e : n - a ≡ m + (n - (a + 32)) = omega arith in
-    ap (hitsFrom ps text a) e ∙ hitsFrom-split ps text a m (n - (a + 32)) ∙ ap (λ (l : List (ℕ × ℕ)). hitsFrom ps text a m ++ l) (same (n - (a + 32)) refl)
+    let m = min n (a + 64) - a in
+    let e : n - a ≡ m + (n - (a + 64)) = omega arith in
+    ap (hitsFrom ps text a) e ∙ hitsFrom-split ps text a m (n - (a + 64)) ∙ ap (λ (l : List (ℕ × ℕ)). hitsFrom ps text a m ++ l) (same (n - (a + 64)) refl)
   where
-    same : (k : ℕ) → length text - (a + 32) ≡ k → hitsFrom ps text (a + (min (length text) (a + 32) - a)) k ≡ hitsFrom ps text (a + 32) k
-    same zero q = hitsFrom-none ps text (a + (min (length text) (a + 32) - a)) ∙ sym (hitsFrom-none ps text (a + 32))
-    same (suc k) q = let e : a + (min (length text) (a + 32) - a) ≡ a + 32 = omega arith in ap (λ (i : ℕ). hitsFrom ps text i (suc k)) e
+    same : (k : ℕ) → length text - (a + 64) ≡ k → hitsFrom ps text (a + (min (length text) (a + 64) - a)) k ≡ hitsFrom ps text (a + 64) k
+    same zero q = hitsFrom-none ps text (a + (min (length text) (a + 64) - a)) ∙ sym (hitsFrom-none ps text (a + 64))
+    same (suc k) q = let e : a + (min (length text) (a + 64) - a) ≡ a + 64 = omega arith in ap (λ (i : ℕ). hitsFrom ps text i (suc k)) e
 
-pub block-step-to : (ps : PatternSet) (text : List ℤ) (a e : ℕ) → a < length text → e ≡ min (length text) (a + 32) → restHits ps text a ≡ hitsFrom ps text a (e - a) ++ restHits ps text (a + 32)
-block-step-to ps text a e h q = block-step ps text a h ∙ ap (λ (k : ℕ). hitsFrom ps text a (k - a) ++ restHits ps text (a + 32)) (sym q)
+pub block-step-to : (ps : PatternSet) (text : List ℤ) (a e : ℕ) → a < length text → e ≡ min (length text) (a + 64) → restHits ps text a ≡ hitsFrom ps text a (e - a) ++ restHits ps text (a + 64)
+block-step-to ps text a e h q = block-step ps text a h ∙ ap (λ (k : ℕ). hitsFrom ps text a (k - a) ++ restHits ps text (a + 64)) (sym q)
 
-pub length-block-step : (ps : PatternSet) (text : List ℤ) (a e : ℕ) → a < length text → e ≡ min (length text) (a + 32) → length (restHits ps text a) ≡ length (hitsFrom ps text a (e - a)) + length (restHits ps text (a + 32))
-length-block-step ps text a e h q = ap length (block-step-to ps text a e h q) ∙ length-append (hitsFrom ps text a (e - a)) (restHits ps text (a + 32))
+pub length-block-step : (ps : PatternSet) (text : List ℤ) (a e : ℕ) → a < length text → e ≡ min (length text) (a + 64) → length (restHits ps text a) ≡ length (hitsFrom ps text a (e - a)) + length (restHits ps text (a + 64))
+length-block-step ps text a e h q = ap length (block-step-to ps text a e h q) ∙ length-append (hitsFrom ps text a (e - a)) (restHits ps text (a + 64))
 
 -- a block that is not marked has no hit
-block-none : (ps : PatternSet) (text : List ℤ) (marks : List ℕ) (a block n : ℕ) → T (goodSet ps) → LikelyMarked ps text marks (length text) → isMarked marks block ≡ false → a ≡ block * 32 → n ≤ 32 → a + n ≤ length text → hitsFrom ps text a n ≡ []
+block-none : (ps : PatternSet) (text : List ℤ) (marks : List ℕ) (a block n : ℕ) → T (goodSet ps) → HitsMarked ps text marks (length text) → isMarked marks block ≡ false → a ≡ block * 64 → n ≤ 64 → a + n ≤ length text → hitsFrom ps text a n ≡ []
 block-none ps text marks a block n g l u e h k = go n h k
   where
-    go : (n : ℕ) → n ≤ 32 → a + n ≤ length text → hitsFrom ps text a n ≡ []
+    go : (n : ℕ) → n ≤ 64 → a + n ≤ length text → hitsFrom ps text a n ≡ []
     go zero h k = hitsFrom-none ps text a
     go (suc n) h k =
         let p = a + n in
-        let q : p / 32 ≡ block = omega arith in
+        let q : p / 64 ≡ block = omega arith in
         let s : suc n ≡ n + 1 = omega arith in
         let o : hitsFrom ps text p 1 ≡ hitsAt ps text p = hitsFrom-next ps text p 0 ∙ ap (λ (v : List (ℕ × ℕ)). hitsAt ps text p ++ v) (hitsFrom-none ps text (suc p)) ∙ append-nil (hitsAt ps text p) in
         ap (hitsFrom ps text a) s
@@ -109,22 +125,12 @@ block-none ps text marks a block n g l u e h k = go n h k
         (o ∙ none-hit ps text p g (λ r m t. subst T (ap (isMarked marks) q ∙ u) (l p (omega arith) r m t)))
 
 -- so the hits from it on are those from the next one on
-pub block-pass : (ps : PatternSet) (text : List ℤ) (marks : List ℕ) (a block : ℕ) → T (goodSet ps) → LikelyMarked ps text marks (length text) → isMarked marks block ≡ false → a ≡ block * 32 → a < length text → restHits ps text a ≡ restHits ps text (a + 32)
+pub block-pass : (ps : PatternSet) (text : List ℤ) (marks : List ℕ) (a block : ℕ) → T (goodSet ps) → HitsMarked ps text marks (length text) → isMarked marks block ≡ false → a ≡ block * 64 → a < length text → restHits ps text a ≡ restHits ps text (a + 64)
 block-pass ps text marks a block g l u e h =
     block-step ps text a h
-    ∙ ap (λ (v : List (ℕ × ℕ)). v ++ restHits ps text (a + 32)) (block-none ps text marks a block (min (length text) (a + 32) - a) g l u e (omega arith) (omega arith))
+    ∙ ap (λ (v : List (ℕ × ℕ)). v ++ restHits ps text (a + 64)) (block-none ps text marks a block (min (length text) (a + 64) - a) g l u e (omega arith) (omega arith))
 
 -- ---- words
-
-hitWords-append : (xs ys : List (ℕ × ℕ)) → hitWords (xs ++ ys) ≡ hitWords xs ++ hitWords ys
-unfolding hitWords
-hitWords-append [] ys = refl
-hitWords-append (x ∷ xs) ys = ap (λ (l : List ℕ). x .0 ∷ x .1 ∷ l) (hitWords-append xs ys)
-
-length-hitWords : (xs : List (ℕ × ℕ)) → length (hitWords xs) ≡ 2 * length xs
-unfolding hitWords
-length-hitWords [] = refl
-length-hitWords (x ∷ xs) = let ih = length-hitWords xs in omega arith
 
 sets-append : (a b l : List ℕ) (i : ℕ) → sets l i (a ++ b) ≡ sets (sets l i a) (i + length a) b
 sets-append [] b l i = ap (λ (k : ℕ). sets l k b) (sym (add-zero i))
@@ -162,6 +168,26 @@ words-end zs out to e = rw e refl
 pub place-words : (ps : PatternSet) (text : List ℤ) (p : ℕ) (numbers : List ℕ) (found : ℕ) → T (goodSet ps) → Ranks ps numbers → SetOf ps (isHit (take (suc p) text)) found → rankWords numbers p (bits found) ≡ hitWords (hitsAt ps text p)
 unfolding rankWords
 place-words ps text p numbers found g n s = ap hitWords (hits-by-rank ps text p numbers found g n s)
+
+-- place p by itself
+module _ (ps : PatternSet) (text : List ℤ) (p : ℕ) (lt : p < length text) where
+  -- without hits
+  pub rest-none : hitsAt ps text p ≡ [] → restHits ps text p ≡ restHits ps text (p + 1)
+  rest-none e = hits-step ps text p (length text) lt ∙ ap (λ (v : List (ℕ × ℕ)). v ++ restHits ps text (p + 1)) e
+
+  -- with the hits that were found
+  module _ (good : T (goodSet ps)) (numbers : List ℕ) (found : ℕ) (ranks : Ranks ps numbers) (hit : SetOf ps (isHit (take (suc p) text)) found) where
+    pub rest-length : length (restHits ps text p) ≡ length (bits found) + length (restHits ps text (p + 1))
+    rest-length =
+        ap length (hits-step ps text p (length text) lt)
+        ∙ length-append (hitsAt ps text p) (restHits ps text (p + 1))
+        ∙ ap (λ (n : ℕ). n + length (restHits ps text (p + 1))) (sym (hits-size ps text p numbers found good ranks hit))
+
+    pub rest-words : (out after : List ℕ) (to next : ℕ) → after ≡ sets out to (rankWords numbers p (bits found)) → next ≡ to + 2 * length (bits found)
+        → sets after next (hitWords (restHits ps text (p + 1))) ≡ sets out to (hitWords (restHits ps text p))
+    rest-words out after to next a n =
+        words-step (hitsAt ps text p) (restHits ps text (p + 1)) (restHits ps text p) out after (rankWords numbers p (bits found)) to next (hits-step ps text p (length text) lt) (place-words ps text p numbers found good ranks hit) a
+        (omega (arith, n, hits-size ps text p numbers found good ranks hit))
 
 -- from the front of the array
 pub front-words : (zs : List (ℕ × ℕ)) (out : List ℕ) → 2 * length zs ≤ length out → sets out 0 (hitWords zs) ≡ hitWords zs ++ drop (length (hitWords zs)) out

@@ -1,4 +1,4 @@
--- THE PATTERNS OF A PLACE, BY RANK: the members of a set of ranks, in their order, are the patterns that pass its test in the order of the hits; so they are the place's hits, and as many as its candidates. A place without candidates has no likely pattern, and one without likely patterns no hit.
+-- THE PATTERNS OF A PLACE, BY RANK: the members of a set of ranks, in their order, are the patterns that pass its test in the order of the hits; so they are the place's hits, and as many as its candidates. A place without candidates has no hit.
 use mathlib.Core.Path.{_≡_, refl, sym, _∙_, ap, ap₂, subst}
 use mathlib.Core.Bool.{Bool, true, _&&_}
 use mathlib.Core.List.{List, [], _∷_, map, flatten, List·Memᴰ, List·Memᴰ·head, List·Memᴰ·tail}
@@ -18,17 +18,18 @@ use Rattle.bit_sets.specs.BitSets.{bitAt, bits}
 use Rattle.bit_sets.proofs.Laws.{mem-bits}
 use Rattle.bit_sets.proofs.Digits.{bitAt-none}
 use Rattle.pattern_set.specs.PatternSet.{PatternSet, goodSet, goodPattern}
-use Rattle.matching.specs.Hits.{lastHits, hitsAt}
-use Rattle.model.specs.SearchEntries.{shortest, isCandidate, candidates}
-use Rattle.filter_plan.specs.Plan.{hitOrder, isLikely, isHit}
-use Rattle.filter_plan.proofs.More.{select-none, length-select, howMany-le, howMany-all}
+use Rattle.matching.specs.Matching.{lastHits, hitsAt}
+use Rattle.model.specs.Entries.{shortest, isCandidate, candidates}
+use Rattle.filter_plan.specs.Plan.{hitOrder, isHit}
+use Rattle.filter_plan.proofs.More.{length-select, howMany-le, howMany-all}
+use Rattle.model.proofs.More.{select-empty}
 use Rattle.filter_plan.proofs.HitOrder.{good-number, hitOrder-lt, length-hitOrder, lastHits-order}
-use Rattle.filter_plan.proofs.Checks.{shortest-positive, shortest-own, hit-likely, likely-candidate}
+use Rattle.filter_plan.proofs.Checks.{shortest-own, hit-candidate}
 use Rattle.filter_plan.proofs.Candidates.{candidates-order}
 use Rattle.filter_tables.specs.Tables.{ranked, Ranks}
 use Rattle.filter_tables.proofs.Lookup.{bits-ranks, ranks-order}
 use Rattle.filter_windows.specs.Looks.{SetOf}
-use Rattle.filter_search.specs.Search.{isMarked, LikelyMarked, MarkedIf, candidatesBelow}
+use Rattle.filter_search.specs.Search.{isMarked, HitsMarked, MarkedIf, candidatesBelow}
 
 -- ---- ranks
 
@@ -71,34 +72,44 @@ pub candidates-all : (ps : PatternSet) (text : List ℤ) (n : ℕ) → n ≡ len
 unfolding candidates
 candidates-all ps text n e = rw e refl
 
--- where there is no candidate, no pattern is likely
-none-likely : (ps : PatternSet) (text : List ℤ) (r : ℕ) → T (goodSet ps) → SetOf ps (isCandidate (shortest 17 ps) text) 0 → r < length ps → T (isLikely text (ranked ps r)) → ⊥
-none-likely ps text r g s h t =
+-- where there is no candidate, no pattern has a hit
+no-hit : (ps : PatternSet) (text : List ℤ) (r : ℕ) → T (goodSet ps) → SetOf ps (isCandidate (shortest 17 ps) text) 0 → r < length ps → T (isHit text (ranked ps r)) → ⊥
+no-hit ps text r g s h t =
+    let j = getD (hitOrder ps) r 0 in
     let l = hitOrder-lt ps r (omega (arith, length-hitOrder ps g)) in
-    let c = likely-candidate (shortest 17 ps) text (ranked ps r) (shortest-positive 17 ps g (omega arith)) (shortest-own ps (ranked ps r) (getD-mem ps (getD (hitOrder ps) r 0) [] l)) t in
+    let own = shortest-own ps (ranked ps r) (getD-mem ps j [] l) in
+    let c = hit-candidate (shortest 17 ps) text (ranked ps r) (omega (arith, own)) (good-number ps j g l .2) t in
     subst T (sym (s r (omega (arith, good-count ps g))) ∙ bitAt-none r) (and-join (ltb r (length ps)) (isCandidate (shortest 17 ps) text (ranked ps r)) (T-true (ltb r (length ps)) (lt-ltb r (length ps) h)) c)
 
 -- ---- marks
 
-module _ (ps : PatternSet) (text : List ℤ) (marks : List ℕ) (p : ℕ) (good : T (goodSet ps)) (before : LikelyMarked ps text marks p) where
+module _ (ps : PatternSet) (text : List ℤ) (marks : List ℕ) (p : ℕ) (good : T (goodSet ps)) (before : HitsMarked ps text marks p) where
   -- a place without candidates
-  pub marks-pass : SetOf ps (isCandidate (shortest 17 ps) (take (suc p) text)) 0 → LikelyMarked ps text marks (p + 1)
+  pub marks-pass : SetOf ps (isCandidate (shortest 17 ps) (take (suc p) text)) 0 → HitsMarked ps text marks (p + 1)
   marks-pass s q h r k t = go (decLt q p)
     where
-      go : Dec (q < p) → T (isMarked marks (q / 32))
+      go : Dec (q < p) → T (isMarked marks (q / 64))
       go (yes l) = before q l r k t
-      go (no f) = let e : q ≡ p = omega arith in absurd (none-likely ps (take (suc p) text) r good s k (subst (λ (n : ℕ). T (isLikely (take (suc n) text) (ranked ps r))) e t))
+      go (no f) = let e : q ≡ p = omega arith in absurd (no-hit ps (take (suc p) text) r good s k (subst (λ (n : ℕ). T (isHit (take (suc n) text) (ranked ps r))) e t))
+
+  -- a place of a block that is marked
+  pub marks-stay : T (isMarked marks (p / 64)) → HitsMarked ps text marks (p + 1)
+  marks-stay m q h r k t = go (decLt q p)
+    where
+      go : Dec (q < p) → T (isMarked marks (q / 64))
+      go (yes l) = before q l r k t
+      go (no f) = let e : q ≡ p = omega arith in rw e m
 
   -- a place that was looked at
-  pub marks-next : (after : List ℕ) (likely : ℕ) → SetOf ps (isLikely (take (suc p) text)) likely → MarkedIf marks after p likely → LikelyMarked ps text after (p + 1)
-  marks-next after likely s m q h r k t = go (decLt q p)
+  pub marks-next : (after : List ℕ) (found : ℕ) → SetOf ps (isHit (take (suc p) text)) found → MarkedIf marks after p found → HitsMarked ps text after (p + 1)
+  marks-next after found s m q h r k t = go (decLt q p)
     where
-      go : Dec (q < p) → T (isMarked after (q / 32))
-      go (yes l) = m .kept (q / 32) (before q l r k t)
+      go : Dec (q < p) → T (isMarked after (q / 64))
+      go (yes l) = m .kept (q / 64) (before q l r k t)
       go (no f) =
           let e : q ≡ p = omega arith in
           let l : r < 64 = omega (arith, good-count ps good) in
-          rw e (m .marked r l (subst T (sym (s r l)) (and-join (ltb r (length ps)) (isLikely (take (suc p) text) (ranked ps r)) (T-true (ltb r (length ps)) (lt-ltb r (length ps) k)) (subst (λ (n : ℕ). T (isLikely (take (suc n) text) (ranked ps r))) e t))))
+          rw e (m .marked r l (subst T (sym (s r l)) (and-join (ltb r (length ps)) (isHit (take (suc p) text) (ranked ps r)) (T-true (ltb r (length ps)) (lt-ltb r (length ps) k)) (subst (λ (n : ℕ). T (isHit (take (suc n) text) (ranked ps r))) e t))))
 
 -- ---- hits
 
@@ -120,20 +131,26 @@ hits-size ps text p numbers found g n s =
     sym (length-map {B = ℕ × ℕ} (bits found) (λ r. (p, getD numbers r 0))) ∙ ap length (hits-by-rank ps text p numbers found g n s)
 
 -- no place has more hits than there are patterns
-pub hitsAt-le : (ps : PatternSet) (text : List ℤ) (p : ℕ) → T (goodSet ps) → length (hitsAt ps text p) ≤ 64
+pub hitsAt-count : (ps : PatternSet) (text : List ℤ) (p : ℕ) → T (goodSet ps) → length (hitsAt ps text p) ≤ length ps
 unfolding hitsAt
-hitsAt-le ps text p g =
+hitsAt-count ps text p g =
     let t = take (suc p) text in
     rw (length-map {B = ℕ × ℕ} (lastHits ps t) (λ j. (p, j)), lastHits-order ps t g, length-select (λ j. isHit t (getD ps j [])) (hitOrder ps))
-    (omega (arith, howMany-le (λ j. isHit t (getD ps j [])) (λ x. true) (hitOrder ps) (λ a k u. tt), howMany-all (hitOrder ps), length-hitOrder ps g, good-count ps g))
+    (omega (arith, howMany-le (λ j. isHit t (getD ps j [])) (λ x. true) (hitOrder ps) (λ a k u. tt), howMany-all (hitOrder ps), length-hitOrder ps g))
 
--- a place at which no pattern is likely has no hit
-pub none-hit : (ps : PatternSet) (text : List ℤ) (p : ℕ) → T (goodSet ps) → ((r : ℕ) → r < length ps → T (isLikely (take (suc p) text) (ranked ps r)) → ⊥) → hitsAt ps text p ≡ []
+pub hitsAt-le : (ps : PatternSet) (text : List ℤ) (p : ℕ) → T (goodSet ps) → length (hitsAt ps text p) ≤ 64
+hitsAt-le ps text p g = omega (arith, hitsAt-count ps text p g, good-count ps g)
+
+-- a place at which no pattern by rank has a hit has none
+pub none-hit : (ps : PatternSet) (text : List ℤ) (p : ℕ) → T (goodSet ps) → ((r : ℕ) → r < length ps → T (isHit (take (suc p) text) (ranked ps r)) → ⊥) → hitsAt ps text p ≡ []
 unfolding hitsAt
 none-hit ps text p g none =
     let t = take (suc p) text in
-    ap (map (λ j. (p, j))) (lastHits-order ps t g ∙ select-none (λ j. isHit t (getD ps j [])) (hitOrder ps)
+    ap (map (λ j. (p, j))) (lastHits-order ps t g ∙ select-empty (λ j. isHit t (getD ps j [])) (hitOrder ps)
     (λ j m h. let w = mem-getD (hitOrder ps) j 0 m in
     let k : w .0 < length ps = omega (arith, w .1, length-hitOrder ps g) in
-    let h' : T (isHit t (ranked ps (w .0))) = subst (λ (i : ℕ). T (isHit t (getD ps i []))) (sym (w .2)) h in
-    none (w .0) k (hit-likely t (ranked ps (w .0)) (good-number ps (getD (hitOrder ps) (w .0) 0) g (hitOrder-lt ps (w .0) (w .1)) .2) h')))
+    none (w .0) k (subst (λ (i : ℕ). T (isHit t (getD ps i []))) (sym (w .2)) h)))
+
+-- so has one without candidates
+pub no-candidate-hit : (ps : PatternSet) (text : List ℤ) (p : ℕ) → T (goodSet ps) → SetOf ps (isCandidate (shortest 17 ps) (take (suc p) text)) 0 → hitsAt ps text p ≡ []
+no-candidate-hit ps text p g s = none-hit ps text p g (λ r k t. no-hit ps (take (suc p) text) r g s k t)

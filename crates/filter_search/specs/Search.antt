@@ -2,26 +2,26 @@
 use Rattle.lists.specs.Prelude.{_≡_, Bool, List, [], _∷_, map, flatten, ℕ, suc, _+_, _-_, _*_, _/_, _%_, _<_, ltb, T, ℤ, length, getD, take, tabulate, select}
 use Rattle.bit_sets.specs.BitSets.{bitAt}
 use Rattle.pattern_set.specs.PatternSet.{PatternSet}
-use Rattle.matching.specs.Hits.{hitsAt, hits, hitWords}
-use Rattle.model.specs.SearchEntries.{shortest, isCandidate, candidates}
+use Rattle.matching.specs.Matching.{hitsAt, hits, hitWords}
+use Rattle.model.specs.Entries.{shortest, isCandidate, candidates}
 use Rattle.model.specs.Refusals.{Entry}
-use Rattle.filter_plan.specs.Plan.{isLikely}
+use Rattle.filter_plan.specs.Plan.{isHit}
 use Rattle.filter_tables.specs.Tables.{ranked}
 
--- ---- marks: a bit for each block of 32 places
+-- ---- marks: a bit for each block of 64 places
 
 abbrev pub isMarked : List ℕ → ℕ → Bool
 isMarked marks block = bitAt (getD marks (block / 64) 0) (block % 64)
 
--- a block is marked if a likely pattern ends at one of its first n places
-abbrev pub LikelyMarked : PatternSet → List ℤ → List ℕ → ℕ → Type 0
-LikelyMarked ps text marks n = (p : ℕ) → p < n → (r : ℕ) → r < length ps → T (isLikely (take (suc p) text) (ranked ps r)) → T (isMarked marks (p / 32))
+-- the block of each of the first n places at which a pattern has a hit is marked
+abbrev pub HitsMarked : PatternSet → List ℤ → List ℕ → ℕ → Type 0
+HitsMarked ps text marks n = (p : ℕ) → p < n → (r : ℕ) → r < length ps → T (isHit (take (suc p) text) (ranked ps r)) → T (isMarked marks (p / 64))
 
--- the marks after a look at place p that found the likely set: no mark is lost, and the block of p is marked if the set is not empty
-pub record MarkedIf (before after : List ℕ) (p likely : ℕ) : Type 0 where
+-- the marks after a look at place p that found a set: no mark is lost, and the block of p is marked if the set is not empty
+pub record MarkedIf (before after : List ℕ) (p found : ℕ) : Type 0 where
   pub size : length after ≡ length before
   pub kept : (block : ℕ) → T (isMarked before block) → T (isMarked after block)
-  pub marked : (r : ℕ) → r < 64 → T (bitAt likely r) → T (isMarked after (p / 32))
+  pub marked : (r : ℕ) → r < 64 → T (bitAt found r) → T (isMarked after (p / 64))
 
 -- ---- counts and lists
 

@@ -5,24 +5,17 @@ ghost use lib.ListN.{length};
 ghost use lib.Seq.{sets};
 ghost use Rattle.bit_sets.specs.BitSets.{bits};
 ghost use Rattle.set_access.specs.Patterns.{patternsOf, Good};
-ghost use Rattle.matching.specs.Hits.{hits, hitWords};
+ghost use Rattle.matching.specs.Matching.{hits, hitWords};
 ghost use Rattle.filter_windows.specs.Looks.{OwnTables, CheckTables};
-ghost use Rattle.filter_search.specs.Search.{LikelyMarked, isMarked, hitsFrom, rankWords};
-
-// Whether the block is marked.
-fn is_marked(marks: &[u64; 512], block: usize) -> bool
-    requires { ⌜ block < 32768 ⌝ }
-    ensures { λ r. ⌜ r ≡ isMarked (now (marks .entry)) block ⌝ }
-{
-    bit_sets::has(marks[block / 64], block % 64)
-}
+ghost use Rattle.filter_search.specs.Search.{HitsMarked, hitsFrom, rankWords};
+use crate::marks::is_marked;
 
 // The place behind the last one of the block that begins at the place first, in a text of n values.
 fn block_end(first: usize, n: usize) -> usize
     requires { ⌜ first < 1048576 ⌝ }
-    ensures { λ r. ⌜ r ≡ min n (first + 32) ⌝ }
+    ensures { λ r. ⌜ r ≡ min n (first + 64) ⌝ }
 {
-    if first + 32 < n { first + 32 } else { n }
+    if first + 64 < n { first + 64 } else { n }
 }
 
 // How many hits the places from first to end have.
@@ -59,7 +52,7 @@ fn count_block(
 pub(crate) fn count_hits(
     set: &[u32],
     text: &[i32],
-    marks: &[u64; 512],
+    marks: &[u64; 256],
     lower: &[u64; 256],
     high: &[u64; 256],
     fits: &[u64; 256],
@@ -68,7 +61,7 @@ pub(crate) fn count_hits(
 ) -> usize
     requires { ⌜ Good (now set) ⌝ }
     requires { ⌜ length (now text) ≤ 1048576 ⌝ }
-    requires { ⌜ LikelyMarked (patternsOf (now set)) (now text) (now marks) (length (now text)) ⌝ }
+    requires { ⌜ HitsMarked (patternsOf (now set)) (now text) (now marks) (length (now text)) ⌝ }
     requires { ⌜ OwnTables (patternsOf (now set)) (now lower) (now high) (now fits) ⌝ }
     requires { ⌜ CheckTables (patternsOf (now set)) (now numbers) (now parents) ⌝ }
     ensures { λ r. ⌜ r ≡ length (hits (patternsOf (now (set .entry))) (now (text .entry))) ⌝ }
@@ -91,14 +84,20 @@ pub(crate) fn count_hits(
                 parents,
             );
         }
-        first += 32;
+        first += 64;
         block += 1;
     }
     count
 }
 
 // Writes the hits of a set of ranks at place p, from the word at on; tells the word behind them.
-fn write_place(numbers: &[u32; 64], found: u64, p: usize, out: &mut [u32], at: usize) -> usize
+pub(crate) fn write_place(
+    numbers: &[u32; 64],
+    found: u64,
+    p: usize,
+    out: &mut [u32],
+    at: usize,
+) -> usize
     requires { ⌜ (p < 1048576) × (at + 2 * length (bits found) ≤ length (now out)) ⌝ }
     ensures { λ r. ⌜ r ≡ at + 2 * length (bits found) ⌝ }
     ensures { λ _. ⌜ now (out .exit) ≡ sets (now (out .entry)) at (rankWords (now (numbers .entry)) p (bits found)) ⌝ }
@@ -153,7 +152,7 @@ fn write_block(
 pub(crate) fn write_hits(
     set: &[u32],
     text: &[i32],
-    marks: &[u64; 512],
+    marks: &[u64; 256],
     lower: &[u64; 256],
     high: &[u64; 256],
     fits: &[u64; 256],
@@ -163,7 +162,7 @@ pub(crate) fn write_hits(
 ) -> usize
     requires { ⌜ Good (now set) ⌝ }
     requires { ⌜ length (now text) ≤ 1048576 ⌝ }
-    requires { ⌜ LikelyMarked (patternsOf (now set)) (now text) (now marks) (length (now text)) ⌝ }
+    requires { ⌜ HitsMarked (patternsOf (now set)) (now text) (now marks) (length (now text)) ⌝ }
     requires { ⌜ OwnTables (patternsOf (now set)) (now lower) (now high) (now fits) × CheckTables (patternsOf (now set)) (now numbers) (now parents) ⌝ }
     requires { ⌜ 2 * length (hits (patternsOf (now set)) (now text)) ≤ length (now out) ⌝ }
     ensures { λ r. ⌜ r ≡ 2 * length (hits (patternsOf (now (set .entry))) (now (text .entry))) ⌝ }
@@ -189,7 +188,7 @@ pub(crate) fn write_hits(
                 to,
             );
         }
-        first += 32;
+        first += 64;
         block += 1;
     }
     to

@@ -20,13 +20,14 @@ use Rattle.bit_sets.proofs.Digits.{bitAt-and}
 use Rattle.bit_sets.proofs.Laws.{bits-by}
 use Rattle.lists.proofs.Select.{getD-mem, map-tabulate, select-map, select-below-ext, select-append}
 use Rattle.pattern_set.specs.PatternSet.{PatternSet, goodSet}
-use Rattle.model.specs.SearchEntries.{shortest, isCandidate}
+use Rattle.model.specs.Entries.{shortest, isCandidate}
 use Rattle.filter_plan.specs.Plan.{hitOrder, textKey, patternKey, ownLength, isLikely}
 use Rattle.filter_plan.proofs.More.{mod-pow-pow}
 use Rattle.filter_plan.proofs.Keys.{textKey-lt, textKey-part}
-use Rattle.filter_plan.proofs.HitOrder.{good-pattern, hitOrder-lt, length-hitOrder}
+use Rattle.filter_plan.proofs.HitOrder.{hitOrder-lt, length-hitOrder}
 use Rattle.filter_plan.proofs.Checks.{shortest-bound, shortest-positive, shortest-own, likely-candidate}
 use Rattle.filter_tables.specs.Tables.{ranked, Holds, keyLow, keyHigh, ownLow, ownHigh, fitsAt}
+use Rattle.pattern_set.proofs.Good.{good-pattern}
 
 -- ---- tests
 

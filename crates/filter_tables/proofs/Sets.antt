@@ -14,14 +14,7 @@ use Rattle.bit_sets.proofs.Digits.{bitAt-none}
 use Rattle.pattern_set.specs.PatternSet.{PatternSet}
 use Rattle.filter_tables.specs.Tables.{ranked, Holds}
 use Rattle.filter_tables.specs.Steps.{Empty, Adds}
-
-and-false : (b : Bool) → (b && false) ≡ false
-and-false true = refl
-and-false false = refl
-
-and-true : (b : Bool) → (b && true) ≡ b
-and-true true = refl
-and-true false = refl
+use Rattle.lists.proofs.Lists.{and-false, and-true}
 
 or-false : (b : Bool) → (b || false) ≡ b
 or-false true = refl

@@ -1,5 +1,5 @@
 -- What the tables of a filter search hold. A set of patterns is a u64: bit r stands for the pattern of rank r in the order of hits.
-use Rattle.lists.specs.Prelude.{_≡_, Bool, _&&_, List, [], ℕ, suc, _+_, _-_, _/_, _%_, _^_, min, _<_, eqb, leb, ltb, length, getD, take, drop, flatten}
+use Rattle.lists.specs.Prelude.{_≡_, Bool, _&&_, List, [], ℕ, suc, _-_, _/_, _%_, _^_, min, _<_, eqb, leb, ltb, length, getD, take, drop, flatten}
 use Rattle.bit_sets.specs.BitSets.{bitAt}
 use Rattle.pattern_set.specs.PatternSet.{PatternSet}
 use Rattle.global_parents.specs.GlobalParents.{globalParents}

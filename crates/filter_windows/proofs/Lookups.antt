@@ -1,6 +1,6 @@
 -- WHAT A LOOK INTO THE TABLES FINDS at a place: by the key of b values the candidates, by the key of 17 values the likely patterns.
-use mathlib.Core.Path.{_≡_, refl, _∙_, ap₂, subst}
-use mathlib.Core.Bool.{_&&_}
+use mathlib.Core.Path.{_≡_, refl, sym, _∙_, ap, ap₂, subst}
+use mathlib.Core.Bool.{Bool, _&&_}
 use mathlib.Core.List.{List}
 use Prim.Native.Nat.{ℕ, suc, min, _-_, _/_, _%_, _≤_, _<_}
 use native.Mathlib.Omega.{arith}
@@ -9,8 +9,9 @@ use lib.IntN.{ℤ}
 use lib.ListN.{length, getD, take}
 use lib.Seq.{length-take-le}
 use Rattle.bit_sets.specs.BitSets.{bitAt}
+use Rattle.bit_sets.proofs.Digits.{bitAt-none}
 use Rattle.pattern_set.specs.PatternSet.{PatternSet, goodSet}
-use Rattle.model.specs.SearchEntries.{shortest, isCandidate}
+use Rattle.model.specs.Entries.{shortest, isCandidate}
 use Rattle.filter_plan.specs.Plan.{textKey, isLikely}
 use native.Mathlib.Nat.{lt-of-lt-of-le}
 use lib.Pow.{pow-mono}
@@ -27,6 +28,15 @@ own-key-lt text = textKey-lt 17 text (omega arith)
 -- the bits that the three entries have in common
 abbrev pub Looked : List ℕ → List ℕ → List ℕ → ℕ → ℕ → ℕ → Type 0
 Looked lower high fits key p set = (r : ℕ) → r < 64 → bitAt set r ≡ (bitAt (getD lower (key % 256) 0) r && bitAt (getD high (key / 256) 0) r && bitAt (getD fits (min 255 p) 0) r)
+
+-- first by the key, then by the place
+module _ (lower high fits : List ℕ) (key p keyed : ℕ) (by-key : (r : ℕ) → r < 64 → bitAt keyed r ≡ (bitAt (getD lower (key % 256) 0) r && bitAt (getD high (key / 256) 0) r)) where
+  pub looked-fitting : (set : ℕ) → ((r : ℕ) → r < 64 → bitAt set r ≡ (bitAt keyed r && bitAt (getD fits (min 255 p) 0) r)) → Looked lower high fits key p set
+  looked-fitting set f r h = f r h ∙ ap (λ (b : Bool). b && bitAt (getD fits (min 255 p) 0) r) (by-key r h)
+
+  -- where no pattern has the key
+  pub looked-none : keyed ≡ 0 → Looked lower high fits key p 0
+  looked-none e r h = bitAt-none r ∙ sym (ap (λ (b : Bool). b && bitAt (getD fits (min 255 p) 0) r) (sym (by-key r h) ∙ ap (λ (m : ℕ). bitAt m r) e ∙ bitAt-none r))
 
 module _ (ps : PatternSet) (text : List ℤ) (p : ℕ) (good : T (goodSet ps)) (lt : p < length text) (lower high fits : List ℕ) (key set : ℕ) (looked : Looked lower high fits key p set) where
   text-length : length (take (suc p) text) ≡ suc p

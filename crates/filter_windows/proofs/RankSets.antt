@@ -10,7 +10,7 @@ use lib.Dec.{T, eqb, leb, ltb, leb→le}
 use lib.IntN.{ℤ}
 use lib.ListN.{length, getD, drop}
 use Rattle.lists.specs.Prelude.{tabulate}
-use Rattle.lists.proofs.Lists.{and-split, and-join, test-ext}
+use Rattle.lists.proofs.Lists.{and-split, and-join, test-ext, and-false, and-true}
 use Rattle.lists.proofs.Order.{T-true, true-T}
 use Rattle.bit_sets.specs.BitSets.{bitAt, bits}
 use Rattle.bit_sets.proofs.Laws.{mem-bits}
@@ -56,14 +56,6 @@ lowest-out m n r j e f h = test-ext (bitAt n j) (not (eqb j r) && bitAt m j) fro
         rest u (inr d) = d
 
 -- ---- the check of the likely patterns one by one
-
-and-true : (b : Bool) → (b && true) ≡ b
-and-true true = refl
-and-true false = refl
-
-and-false : (b : Bool) → (b && false) ≡ false
-and-false true = refl
-and-false false = refl
 
 -- what is found of the likely set when rest is left to check
 abbrev pub Found : ℕ → ℕ → ℕ → (ℕ → Bool) → Type 0

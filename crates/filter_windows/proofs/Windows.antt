@@ -10,18 +10,18 @@ use lib.IntN.{ℤ}
 use lib.ListN.{length, getD, take, drop, length-take, length-drop}
 use lib.Seq.{length-take-le, take-add, take-all, drop-append-seam}
 use Rattle.lists.specs.Prelude.{lastOf}
-use Rattle.lists.proofs.Lists.{length-tabulate}
 use Rattle.lists.proofs.Members.{length-flatten-suc}
-use Rattle.realization.specs.Realizable.{realizable}
-use Rattle.global_parents.specs.GlobalParents.{globalParent, globalParents}
+use Rattle.realization.specs.Realization.{realizable}
+use Rattle.global_parents.specs.GlobalParents.{globalParents}
 use Rattle.pattern_set.specs.PatternSet.{PatternSet, goodSet}
-use Rattle.matching.specs.Hits.{hasTree}
+use Rattle.matching.specs.Matching.{hasTree}
 use Rattle.compute_parents.specs.Passes.{passesParents, ParentsArePlaces}
 use Rattle.compute_parents.proofs.WindowCheck.{passesParents-passes, globalParents-places}
 use Rattle.filter_plan.specs.Plan.{isHit}
 use Rattle.filter_plan.proofs.Checks.{passes-hit}
 use Rattle.filter_plan.proofs.HitOrder.{good-number}
 use Rattle.filter_tables.specs.Tables.{Parents}
+use Rattle.global_parents.proofs.Parents.{length-globalParents}
 
 -- the window of m values that ends at place p
 window-is : (text : List ℤ) (m p : ℕ) → m ≤ suc p → p < length text → take m (drop (suc p - m) text) ≡ lastOf m (take (suc p) text)
@@ -35,10 +35,6 @@ window-is text m p h l =
     ∙ ap (drop a) e
     ∙ ap (λ (n : ℕ). drop n (take a text ++ take m (drop a text))) (sym front)
     ∙ drop-append-seam (take a text) (take m (drop a text)))
-
-length-globalParents : (ds : List ℕ) → length (globalParents ds) ≡ length ds
-unfolding globalParents
-length-globalParents ds = length-tabulate (length ds) (globalParent ds)
 
 -- where the parents of pattern j begin: as far behind those of pattern 0 as the pattern itself
 pub parents-start : (ps : PatternSet) (j a s : ℕ) → s ≡ 3 + length ps + length (flatten (take 0 ps)) → a ≡ 3 + length ps + length (flatten (take j ps)) → a - s ≡ length (flatten (take j ps))

@@ -2,7 +2,7 @@
 use Rattle.lists.specs.Prelude.{_≡_, cond, _&&_, Bool, List, ℕ, zero, suc, _<_, ltb, ℤ, pos, leZ, length, getD}
 use Rattle.bit_sets.specs.BitSets.{bitAt}
 use Rattle.pattern_set.specs.PatternSet.{PatternSet}
-use Rattle.model.specs.SearchEntries.{shortest}
+use Rattle.model.specs.Entries.{shortest}
 use Rattle.filter_tables.specs.Tables.{ranked, Holds, keyLow, keyHigh, ownLow, ownHigh, fitsAt, Ranks, Parents}
 
 -- the bit that place p adds to the keys: 1 where its value is not below the one before it

@@ -80,14 +80,21 @@ fn capped(p: usize) -> usize
     if p < 255 { p } else { 255 }
 }
 
-// The patterns that all three tables have, for a key by its two bytes and for the last place p.
-pub fn look_up(lower: &[u64; 256], high: &[u64; 256], fits: &[u64; 256], key: u32, p: usize) -> u64
+// The patterns that two tables have, for a key by its two bytes.
+pub fn by_key(lower: &[u64; 256], high: &[u64; 256], key: u32) -> u64
     requires { ⌜ key < 65536 ⌝ }
-    ensures { λ s. ⌜ ((r : ℕ) → r < 64 → bitAt s r ≡ (bitAt (getD (now (lower .entry)) (key % 256) 0) r && bitAt (getD (now (high .entry)) (key / 256) 0) r && bitAt (getD (now (fits .entry)) (min 255 p) 0) r)) ⌝ }
+    ensures { λ s. ⌜ ((r : ℕ) → r < 64 → bitAt s r ≡ (bitAt (getD (now (lower .entry)) (key % 256) 0) r && bitAt (getD (now (high .entry)) (key / 256) 0) r)) ⌝ }
 {
     let k = wide(key);
+    bit_sets::common(lower[k % 256], high[k / 256])
+}
+
+// Of a set of patterns those whose window with the last place p lies within the text.
+pub fn fitting(set: u64, fits: &[u64; 256], p: usize) -> u64
+    ensures { λ s. ⌜ ((r : ℕ) → r < 64 → bitAt s r ≡ (bitAt set r && bitAt (getD (now (fits .entry)) (min 255 p) 0) r)) ⌝ }
+{
     let last = capped(p);
-    bit_sets::common(bit_sets::common(lower[k % 256], high[k / 256]), fits[last])
+    bit_sets::common(set, fits[last])
 }
 
 // ---- windows
@@ -153,6 +160,6 @@ pub fn hits_at(
     requires { ⌜ CheckTables (patternsOf (now set)) (now numbers) (now parents) ⌝ }
     ensures { λ s. ⌜ SetOf (patternsOf (now (set .entry))) (isHit (take (suc p) (now (text .entry)))) s ⌝ }
 {
-    let likely = look_up(lower, high, fits, own, p);
+    let likely = fitting(by_key(lower, high, own), fits, p);
     verified(set, text, p, likely, numbers, parents)
 }

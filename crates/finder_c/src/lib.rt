@@ -2,13 +2,10 @@
 ghost use mathlib.Core.Path.{_≡_};
 ghost use Rattle.answers.specs.Told.{toldWritten, toldEncoded, toldSize, toldBuilt, toldFiltered, toldStreamed};
 ghost use Rattle.answers.specs.NewSearch.{newSearch};
-ghost use Rattle.realization.specs.LeastRealization.{leastRealization};
-ghost use Rattle.realization.specs.FailureLength.{failureLengths};
+ghost use Rattle.realization.specs.Realization.{leastRealization, failureLengths};
 ghost use Rattle.global_parents.specs.GlobalParents.{globalParents};
 ghost use Rattle.model.specs.Refusals.{told, after};
-ghost use Rattle.model.specs.PatternEntries.{distancesEntry, listEntry, encodeEntry, decodeEntry};
-ghost use Rattle.model.specs.SetEntries.{emptySetEntry, checkEntry, addEntry};
-ghost use Rattle.model.specs.SearchEntries.{buildEntry, streamEntry, streamState, filterEntry};
+ghost use Rattle.model.specs.Entries.{distancesEntry, listEntry, encodeEntry, decodeEntry, emptySetEntry, checkEntry, addEntry, buildEntry, streamEntry, streamState, filterEntry};
 ghost use Rattle.finder_c.specs.Told.{tellsWritten, tellsCode, tellsCounts, tellsStreamed};
 use answers::Built;
 use answers::Counts;

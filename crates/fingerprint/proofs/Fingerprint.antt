@@ -12,8 +12,8 @@ use lib.IntN.{ℤ}
 use lib.Signed.{leZ}
 use lib.ListN.{length, length-append}
 use Rattle.lists.specs.Prelude.{lastOf}
-use Rattle.cartesian.specs.Tree.{tree}
-use Rattle.cartesian.specs.Distances.{distances, suffixDistances}
+use Rattle.cartesian.specs.Cartesian.{tree, distances}
+use Rattle.cartesian.specs.Windows.{suffixDistances}
 use Rattle.cartesian.proofs.ByList.{back, distsFrom, distances-list}
 use Rattle.cartesian.proofs.Matching.{trees-iff-distances}
 use Rattle.cartesian.proofs.Window.{distances-lastOf}

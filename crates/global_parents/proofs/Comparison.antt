@@ -10,7 +10,7 @@ use lib.Signed.{leZ, ltZ, _≤ℤ_, _<ℤ_, leZ-yes, ltZ-yes}
 use lib.ListN.{getD}
 use Rattle.lists.proofs.Lists.{and-split, and-join, or-cases, or-left, or-right}
 use Rattle.lists.proofs.Order.{≤ℤ-total, <ℤ-≤ℤ}
-use Rattle.global_parents.specs.GlobalParents.{passesAt}
+use Rattle.global_parents.specs.Passes.{passesAt}
 
 -- the value at a place
 abbrev pub value : List ℤ → ℕ → ℤ

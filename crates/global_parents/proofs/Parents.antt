@@ -13,9 +13,7 @@ use lib.ListN.{length, getD, take}
 use lib.Seq.{ext-getD}
 use Rattle.lists.specs.Prelude.{lastBelow}
 use Rattle.lists.proofs.Lists.{and-split, and-join, length-tabulate, getD-tabulate, lastBelow-passes, lastBelow-le, lastBelow-none}
-use Rattle.cartesian.specs.Tree.{Tree, leaf, node, size, tree}
-use Rattle.cartesian.specs.TreeOf.{treeOf}
-use Rattle.cartesian.specs.Distances.{distances}
+use Rattle.cartesian.specs.Cartesian.{Tree, leaf, node, size, tree, treeOf, distances}
 use Rattle.cartesian.proofs.HasTree.{tree-has}
 use Rattle.cartesian.proofs.Structure.{orElse, treeDistances, distances-tree, length-treeDistances}
 use Rattle.global_parents.specs.GlobalParents.{rootOf, lastLeftChild, isPrefixChild, globalParent, globalParents}
@@ -23,6 +21,10 @@ use Rattle.global_parents.specs.Parents.{parentsFrom, parents}
 use Rattle.lists.proofs.Places.{Place, before, here, after, place}
 use Rattle.global_parents.proofs.Prefix.{treeOf-take, leftChildren, last-prefix}
 use Rattle.global_parents.proofs.Parts.{length-parentsFrom, parent-left, parent-root, parent-right, child-left, child-root, child-right, distance-left, distance-root, distance-right}
+
+pub length-globalParents : (ds : List ℕ) → length (globalParents ds) ≡ length ds
+unfolding globalParents
+length-globalParents ds = length-tabulate (length ds) (globalParent ds)
 
 rootOf-range : (a c : ℕ) (t : Tree) → rootOf a t ≡ some c → (a ≤ c) × (c < a + size t)
 unfolding size

@@ -1,13 +1,13 @@
 -- The left children, the distances and the parents of a node, part by part: at a place on its left, at its root, at a place on its right.
 use mathlib.Core.Path.{_≡_, refl, _∙_, ap, ap₂}
-use mathlib.Core.List.{List, [], _∷_}
+use mathlib.Core.List.{_∷_}
 use mathlib.Core.Option.{none}
-use Prim.Native.Nat.{ℕ, zero, suc, _+_, _<_}
+use Prim.Native.Nat.{ℕ, suc, _+_, _<_}
 use native.Mathlib.Omega.{arith}
 use lib.ListN.{length, getD, length-append}
 use lib.Seq.{getD-at}
-use Rattle.cartesian.specs.Tree.{Tree, leaf, node, size}
-use Rattle.cartesian.proofs.Structure.{orElse, lift, treeDistances, length-treeDistances}
+use Rattle.cartesian.specs.Cartesian.{Tree, leaf, node, size}
+use Rattle.cartesian.proofs.Structure.{orElse, lift, treeDistances, length-treeDistances, getD-lift}
 use Rattle.global_parents.specs.GlobalParents.{rootOf}
 use Rattle.global_parents.specs.Parents.{parentsFrom}
 use Rattle.lists.proofs.Places.{getD-before, getD-after}
@@ -54,12 +54,6 @@ distance-left l r k h = getD-before (treeDistances l) 0 (lift 1 (treeDistances r
 pub distance-root : (l r : Tree) → getD (treeDistances (node l r)) (size l) 0 ≡ 0
 unfolding treeDistances
 distance-root l r = getD-at (treeDistances l) 0 (lift 1 (treeDistances r)) 0 (size l) (length-treeDistances l)
-
-getD-lift : (i : ℕ) (ds : List ℕ) (k : ℕ) → k < length ds → getD (lift i ds) k 0 ≡ orElse (getD ds k 0) (i + k)
-unfolding lift
-getD-lift i [] k h = absurd (let z : ⊥ = omega arith in z)
-getD-lift i (d ∷ ds) zero h = ap (orElse d) (omega arith)
-getD-lift i (d ∷ ds) (suc k) h = getD-lift (suc i) ds k (omega arith) ∙ ap (orElse (getD ds k 0)) (omega arith)
 
 pub distance-right : (l r : Tree) (k : ℕ) → k < size r → getD (treeDistances (node l r)) (size l + suc k) 0 ≡ orElse (getD (treeDistances r) k 0) (suc k)
 unfolding treeDistances

@@ -13,13 +13,13 @@ use lib.Signed.{_≤ℤ_, _<ℤ_, ≤ℤ-refl, <ℤ-≤ℤ-trans}
 use lib.ListN.{length, getD, length-append}
 use lib.Seq.{getD-at}
 use Rattle.lists.proofs.Order.{≤ℤ-trans}
-use Rattle.cartesian.specs.Tree.{Tree, leaf, node, size, tree}
-use Rattle.cartesian.specs.Distances.{distances}
+use Rattle.cartesian.specs.Cartesian.{Tree, leaf, node, size, tree, distances}
 use Rattle.cartesian.proofs.HasTree.{Over, HasTree, empty, root, tree-has, over-at, over-get}
 use Rattle.cartesian.proofs.Seek.{length-distances}
 use Rattle.cartesian.proofs.Structure.{treeDistances, distances-tree, length-treeDistances}
 use Rattle.cartesian.proofs.Injective.{treeDistances-injective}
-use Rattle.global_parents.specs.GlobalParents.{globalParent, passesAt, passes}
+use Rattle.global_parents.specs.GlobalParents.{globalParent}
+use Rattle.global_parents.specs.Passes.{passesAt, passes}
 use Rattle.global_parents.specs.Parents.{parentsFrom, parents}
 use Rattle.lists.proofs.Places.{Place, before, here, after, place, getD-before, getD-after, split-length, all-below, below-all}
 use Rattle.global_parents.proofs.Parts.{parent-left, parent-root, parent-right}

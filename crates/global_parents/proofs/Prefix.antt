@@ -11,8 +11,7 @@ use borrow.Author.Tests.{le-leb, lt-leb}
 use lib.Dec.{leb}
 use lib.ListN.{length, getD, take, length-append, length-take}
 use lib.Seq.{take-nil, take-append-le, take-append-add, getD-at}
-use Rattle.cartesian.specs.Tree.{Tree, leaf, node, size}
-use Rattle.cartesian.specs.TreeOf.{treeOf}
+use Rattle.cartesian.specs.Cartesian.{Tree, leaf, node, size, treeOf}
 use Rattle.cartesian.proofs.Structure.{lift, treeDistances, length-treeDistances}
 use Rattle.cartesian.proofs.TreeOf.{treeOf-treeDistances}
 use Rattle.global_parents.specs.GlobalParents.{rootOf, lastLeftChild}

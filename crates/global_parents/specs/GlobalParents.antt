@@ -1,7 +1,6 @@
 -- Global parents. Document 01 (and 000): Global parent.
-use Rattle.lists.specs.Prelude.{Bool, true, false, cond, _&&_, _||_, List, [], _∷_, Option, none, some, ℕ, zero, suc, _+_, _-_, pred, ℤ, pos, eqb, leb, ltb, leZ, ltZ, length, getD, take, tabulate, lastBelow, all}
-use Rattle.cartesian.specs.Tree.{Tree, leaf, node, size}
-use Rattle.cartesian.specs.TreeOf.{treeOf}
+use Rattle.lists.specs.Prelude.{Bool, false, _&&_, Option, none, some, List, ℕ, zero, suc, _+_, _-_, eqb, ltb, length, getD, take, tabulate, lastBelow}
+use Rattle.cartesian.specs.Cartesian.{Tree, leaf, node, size, treeOf}
 
 -- the place of the root of a tree whose first place is a
 abbrev pub rootOf : ℕ → Tree → Option ℕ
@@ -32,14 +31,3 @@ globalParent ds i = orElse (lastBelow (λ j. ltb i j && isPrefixChild ds i j) (l
 
 unfoldable pub globalParents : List ℕ → List ℕ
 globalParents ds = tabulate (length ds) (globalParent ds)
-
--- is the value at the global parent g below the value at i, or equal to it with the parent not to the right of i
-unfoldable pub passesAt : List ℤ → ℕ → ℕ → Bool
-passesAt xs g i =
-    let a = getD xs g (pos 0) in
-    let b = getD xs i (pos 0) in
-    ltZ a b || (leZ a b && leZ b a && leb g i)
-
--- every value of a window passes the comparison with its global parent
-unfoldable pub passes : List ℕ → List ℤ → Bool
-passes ds xs = all (λ i. passesAt xs (globalParent ds i) i) (tabulate (length ds) (λ i. i))

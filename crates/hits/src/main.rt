@@ -1,8 +1,8 @@
 // The program `hits`: reads patterns and a text from standard input, runs a stream search, and prints the hits and the attempts. Document 01: Program `hits`.
-mod preparing;
 mod printing;
 mod searching;
 
+use hits_calls::preparing;
 use hits_input::Parsed;
 
 // Makes the set of the k patterns that end at these places and its automaton, and searches the text's first n values; the first call that is refused is told.

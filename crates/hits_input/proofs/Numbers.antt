@@ -14,6 +14,7 @@ use lib.Seq.{drop-cons}
 use Rattle.lists.specs.Prelude.{all}
 use Rattle.hits_input.specs.Input.{when, decimal, areDigits, negative, readNumber}
 use Rattle.hits_input.specs.Steps.{next, told, sizeOf}
+use Rattle.lists.proofs.Lists.{and-false}
 
 abbrev isDigit : ℕ → Bool
 isDigit d = leb 48 d && leb d 57
@@ -22,10 +23,6 @@ isDigit d = leb 48 d && leb d 57
 
 pub digit-yes : (d : ℕ) → 48 ≤ d → d ≤ 57 → leb 48 d && leb d 57 ≡ true
 digit-yes d h k = rw (le-leb 48 d h, le-leb d 57 k) refl
-
-and-false : (t : Bool) → t && false ≡ false
-and-false true = refl
-and-false false = refl
 
 pub digit-low : (d : ℕ) → d < 48 → leb 48 d && leb d 57 ≡ false
 digit-low d h = rw (lt-leb 48 d h) refl

@@ -1,5 +1,5 @@
 -- What reading leaves in the lent arrays: the patterns' values one after the other, where each pattern ends among them, and the text.
-use Rattle.lists.specs.Prelude.{_≡_, Option, none, some, List, [], _∷_, flatten, ℕ, _+_, ℤ, length, take}
+use Rattle.lists.specs.Prelude.{_≡_, none, some, List, [], _∷_, flatten, ℕ, _+_, ℤ, length, take}
 use Rattle.hits_input.specs.declared.Parsed.{Parsed}
 use Rattle.hits_input.specs.Input.{Input, readInput}
 

@@ -5,7 +5,7 @@ use Prim.Native.Nat.{ℕ, zero, suc, _+_, _*_, _<_}
 use native.Mathlib.Omega.{arith}
 use lib.ListN.{length, getD}
 use Rattle.lists.proofs.Lists.{tabulate-ext, tabulate-getD}
-use Rattle.matching.specs.Hits.{hitWords}
+use Rattle.matching.specs.Matching.{hitWords}
 use Rattle.hits_output.specs.Output.{hitIn, hitsIn}
 
 hit-behind : (a b : ℕ) (ws : List ℕ) (i : ℕ) → hitIn (a ∷ b ∷ ws) (suc i) ≡ hitIn ws i

@@ -1,19 +1,27 @@
 -- Laws of the functions on lists of specs/Prelude.antt.
 use mathlib.Core.Path.{_≡_, refl, sym, _∙_, ap, ap₂, subst}
-use mathlib.Core.Bool.{Bool, true, false, cond, not, _&&_, _||_}
+use mathlib.Core.Bool.{Bool, true, false, cond, _&&_, _||_}
 use mathlib.Core.Logic.{_⊎_, inl, inr, _↔_}
 use mathlib.Core.List.{List, [], _∷_, _++_, List·Memᴰ, List·Memᴰ·head, List·Memᴰ·tail, List·Memᴰ·not-nil, List·Memᴰ·cases-cons}
 use Prim.Native.Nat.{ℕ, zero, suc, _+_, _-_, _≤_, _<_, zero-le}
-use native.Mathlib.Nat.{le-refl, le-step, add-zero}
+use native.Mathlib.Nat.{le-refl, le-step}
 use native.Mathlib.Omega.{arith}
 use native.Mathlib.Numerals.{add-one, sub-one}
 use native.Mathlib.Decide.{decLt}
 use lib.Dec.{T, eqb, eqb→eq, eqb-refl}
 use lib.ListN.{length, getD, take, drop, set, length-append, length-drop, drop-of-length-le, List·getD-append}
-use lib.Seq.{drop-cons, set-at, append-snoc, getD-at, ext-getD, take-append-seam, drop-drop, take-append-le, drop-append-le, getD-take}
-use Rattle.lists.specs.Prelude.{tabulate, lastBelow, lastOf, any, all, select, same, begins}
+use lib.Seq.{drop-cons, set-at, append-snoc, getD-at, ext-getD, take-append-seam, drop-drop, take-append-le, drop-append-le}
+use Rattle.lists.specs.Prelude.{tabulate, lastBelow, lastOf, any, all, same, begins}
 
 -- ---- tests
+
+pub and-true : (b : Bool) → (b && true) ≡ b
+and-true true = refl
+and-true false = refl
+
+pub and-false : (b : Bool) → (b && false) ≡ false
+and-false true = refl
+and-false false = refl
 
 pub and-split : (a b : Bool) → T (a && b) → T a × T b
 and-split true b t = (tt, t)

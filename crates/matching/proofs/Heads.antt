@@ -15,21 +15,19 @@ use lib.Seq.{take-take, take-all, take-nil}
 use Rattle.lists.specs.Prelude.{any, all, begins, same, lastBelow, lastOf}
 use Rattle.lists.proofs.Order.{T-true, true-T}
 use Rattle.lists.proofs.Lists.{any-mem, mem-any, all-mem, any-ext, test-ext, same-eq, eq-same, length-lastOf, lastOf-lastOf, lastOf-all, lastBelow-ext, lastBelow-le, lastBelow-passes, lastBelow-is, lastBelow-none}
-use Rattle.cartesian.specs.Tree.{Tree, leaf, treeWithin, tree, sameTree}
-use Rattle.cartesian.specs.Distances.{distances, suffixDistances}
-use Rattle.cartesian.specs.TreeOf.{treeOfWithin, treeOf}
+use Rattle.cartesian.specs.Cartesian.{Tree, leaf, treeWithin, tree, sameTree, distances, treeOfWithin, treeOf}
+use Rattle.cartesian.specs.Windows.{suffixDistances}
 use Rattle.cartesian.proofs.Seek.{length-distances}
 use Rattle.cartesian.proofs.ByList.{distances-take}
 use Rattle.cartesian.proofs.Matching.{trees-iff-distances, sameTree-eq, eq-sameTree}
 use Rattle.cartesian.proofs.Window.{distances-lastOf}
 use Rattle.cartesian.proofs.TreeOf.{treeOf-distances}
-use Rattle.realization.specs.Realizable.{Realizable, realizable}
-use Rattle.realization.specs.LeastRealization.{leastRealization}
+use Rattle.realization.specs.Realization.{Realizable, realizable, leastRealization}
 use Rattle.realization.proofs.Realizable.{realizable-iff}
 use Rattle.realization.proofs.LeastRealization.{least-distances, length-least}
 use Rattle.pattern_set.specs.PatternSet.{PatternSet}
-use Rattle.matching.specs.Hits.{hasTree}
-use Rattle.matching.specs.Heads.{isHead, headTree, failure, chainWithin, chain, headLengths}
+use Rattle.matching.specs.Matching.{hasTree, isHead, headTree, failure, chainWithin, chain}
+use Rattle.matching.specs.HeadLengths.{headLengths}
 
 -- ---- shortening
 

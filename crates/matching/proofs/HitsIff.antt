@@ -13,13 +13,11 @@ use lib.ListN.{length, getD, take, length-take}
 use Rattle.lists.specs.Prelude.{lastOf, lastBelow}
 use Rattle.lists.proofs.Lists.{length-lastOf}
 use Rattle.lists.proofs.Order.{T-true}
-use Rattle.cartesian.specs.Tree.{leaf, node, leftmostFrom, leftmost, treeWithin, tree, sameTree}
-use Rattle.cartesian.specs.Distances.{cutFrom}
-use Rattle.cartesian.specs.TreeOf.{rootPlace, treeOfWithin, treeOf}
+use Rattle.cartesian.specs.Cartesian.{leaf, node, leftmostFrom, leftmost, treeWithin, tree, sameTree, cutFrom, rootPlace, treeOfWithin, treeOf}
 use Rattle.cartesian.proofs.HasTree.{equal-tree}
 use Rattle.cartesian.proofs.Matching.{sameTree-eq, eq-sameTree}
 use Rattle.pattern_set.specs.PatternSet.{PatternSet}
-use Rattle.matching.specs.Hits.{hasTree, numbersFrom, endHits, lastHits, hitsAt, hits}
+use Rattle.matching.specs.Matching.{hasTree, numbersFrom, endHits, lastHits, hitsAt, hits}
 use Rattle.lists.proofs.Members.{mem-map, mem-flatten-tabulate}
 use Rattle.matching.proofs.Sizes.{hasTree-length}
 

@@ -12,7 +12,7 @@ use Rattle.lists.specs.Prelude.{tabulate, lastOf}
 use Rattle.lists.proofs.Lists.{length-lastOf}
 use Rattle.lists.proofs.Order.{T-true}
 use Rattle.pattern_set.specs.PatternSet.{PatternSet}
-use Rattle.matching.specs.Hits.{hasTree, numbersFrom, endHits, lastHits, hitsAt, hits}
+use Rattle.matching.specs.Matching.{hasTree, numbersFrom, endHits, lastHits, hitsAt, hits}
 use Rattle.matching.specs.HitOrder.{patternLength, Before, Ordered}
 use Rattle.lists.proofs.Members.{map-append, mem-map, flatten-tabulate, mem-flatten-tabulate}
 use Rattle.matching.proofs.Sizes.{hasTree-length}

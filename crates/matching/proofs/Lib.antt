@@ -3,3 +3,5 @@ pub mod Sizes
 pub mod HitsIff
 pub mod HitsOrder
 pub mod Heads
+pub mod HitWords
+pub mod Numbers

@@ -7,14 +7,12 @@ use native.Mathlib.Nat.{le-refl}
 use lib.Dec.{T}
 use lib.IntN.{ℤ}
 use lib.ListN.{length, take, drop, length-append, length-take, length-drop}
-use Rattle.cartesian.specs.Tree.{Tree, size, tree}
-use Rattle.cartesian.specs.Distances.{cutFrom}
-use Rattle.cartesian.specs.TreeOf.{rootPlace, treeOfWithin, treeOf}
+use Rattle.cartesian.specs.Cartesian.{Tree, size, tree, cutFrom, rootPlace, treeOfWithin, treeOf}
 use Rattle.cartesian.proofs.HasTree.{HasTree, empty, root, tree-has}
 use Rattle.cartesian.proofs.TreeOf.{rootPlace-lt, treeOf-cons}
 use Rattle.cartesian.proofs.Window.{length-cutFrom}
 use Rattle.cartesian.proofs.Matching.{sameTree-eq}
-use Rattle.matching.specs.Hits.{hasTree}
+use Rattle.matching.specs.Matching.{hasTree}
 
 size-has : {xs : List ℤ} {t : Tree} → HasTree xs t → size t ≡ length xs
 unfolding size

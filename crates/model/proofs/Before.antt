@@ -1,6 +1,6 @@
 -- The lexicographic order of lists of distances: it is irreflexive, transitive and total, and a common front of two lists does not count.
 use mathlib.Core.Path.{_≡_, refl, sym, _∙_, ap, ap₂, subst}
-use mathlib.Core.Bool.{not, _&&_}
+use mathlib.Core.Bool.{_&&_}
 use mathlib.Core.Logic.{_⊎_, inl, inr}
 use mathlib.Core.List.{List, [], _∷_, _++_, append-nil}
 use Prim.Native.Nat.{ℕ, zero, suc, _<_}
@@ -11,7 +11,7 @@ use lib.ListN.{length, take, drop, take-append-drop}
 use lib.Seq.{take-length}
 use Rattle.lists.specs.Prelude.{begins}
 use Rattle.lists.proofs.Lists.{and-split, and-join, or-cases, or-left, or-right, same-eq, eq-same}
-use Rattle.model.specs.Nodes.{before}
+use Rattle.model.specs.Automaton.{before}
 
 -- ---- lists that begin with a distance
 

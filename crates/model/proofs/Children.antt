@@ -16,10 +16,9 @@ use Rattle.lists.specs.Prelude.{select, same}
 use Rattle.lists.proofs.Order.{T-true}
 use Rattle.lists.proofs.Lists.{and-split, and-join, same-eq, eq-same}
 use Rattle.pattern_set.specs.PatternSet.{PatternSet, goodSet}
-use Rattle.matching.specs.Heads.{isHead}
+use Rattle.matching.specs.Matching.{isHead}
 use Rattle.matching.proofs.Heads.{head-shorter}
-use Rattle.model.specs.Nodes.{before, nodes, headOf, nodeOf}
-use Rattle.model.specs.AutomatonWords.{children, firstChild}
+use Rattle.model.specs.Automaton.{before, nodes, headOf, nodeOf, children, firstChild}
 use Rattle.model.proofs.More.{Run, select-run}
 use Rattle.model.proofs.Before.{before-take, before-unappend, before-cases, before-nil}
 use Rattle.model.proofs.Nodes.{Earlier, head-node, node-head, node-root, node-longer, nodes-rise, earlier-node, earlier-smaller}

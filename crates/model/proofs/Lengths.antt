@@ -11,8 +11,7 @@ use Rattle.lists.specs.Prelude.{tabulate, select}
 use Rattle.lists.proofs.Lists.{length-tabulate}
 use Rattle.lists.proofs.Members.{flatten-tabulate}
 use Rattle.pattern_set.specs.PatternSet.{PatternSet}
-use Rattle.model.specs.Nodes.{before, putIn, level, nodes}
-use Rattle.model.specs.AutomatonWords.{order, sharedAt, recordOf, automatonWords}
+use Rattle.model.specs.Automaton.{before, putIn, level, nodes, order, sharedAt, recordOf, automatonWords}
 use Rattle.model.proofs.More.{Rising, length-select}
 use Rattle.model.proofs.Before.{before-nil}
 use Rattle.model.proofs.Nodes.{Before, level-rising, mem-level}
@@ -99,7 +98,7 @@ length-rows k zero f h = omega arith
 length-rows k (suc n) f h =
     ap length (flatten-tabulate n f) ∙ length-append (flatten (tabulate n f)) (f n) ∙ (omega (arith, length-rows k n f h, h n))
 
-length-record : (ps : PatternSet) (n : ℕ) → length (recordOf ps n) ≡ 8
+pub length-record : (ps : PatternSet) (n : ℕ) → length (recordOf ps n) ≡ 8
 unfolding recordOf
 length-record ps n = refl
 

@@ -6,3 +6,7 @@ pub mod Nodes
 pub mod Children
 pub mod Order
 pub mod Lengths
+pub mod Minima
+pub mod Chains
+pub mod Ring
+pub mod Common

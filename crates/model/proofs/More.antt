@@ -1,17 +1,16 @@
 -- General laws of lists: who is in a list by its places, lists that rise in an order, and the elements that pass a test where they lie side by side.
-use mathlib.Core.Path.{_≡_, refl, sym, _∙_, ap, ap₂, subst}
+use mathlib.Core.Path.{_≡_, refl, sym, _∙_, ap, subst}
 use mathlib.Core.Bool.{Bool, true, false, cond}
-use mathlib.Core.Logic.{_⊎_, inl, inr, _↔_}
-use mathlib.Core.List.{List, [], _∷_, _++_, map, List·Memᴰ, List·Memᴰ·head, List·Memᴰ·tail, List·Memᴰ·not-nil, List·Memᴰ·cases-cons, List·Memᴰ·append-cases}
+use mathlib.Core.Logic.{_⊎_, inl, inr}
+use mathlib.Core.List.{List, [], _∷_, _++_, map, List·Memᴰ, List·Memᴰ·head, List·Memᴰ·tail, List·Memᴰ·append-cases}
 use Prim.Native.Nat.{ℕ, zero, suc, _+_, _≤_, _<_}
 use native.Mathlib.Omega.{arith}
 use lib.Dec.{T}
 use lib.ListN.{length, getD, take, drop, length-map}
-use Rattle.lists.proofs.Select.{getD-mem, mem-getD, map-tabulate, select-map, mem-select}
+use Rattle.lists.proofs.Select.{getD-mem, mem-getD, map-tabulate, select-map}
 use Rattle.lists.specs.Prelude.{tabulate, select}
 use Rattle.lists.proofs.Order.{T-true}
-use Rattle.lists.proofs.Lists.{length-tabulate, getD-tabulate, tabulate-getD}
-use Rattle.lists.proofs.Members.{map-append}
+use Rattle.lists.proofs.Lists.{tabulate-getD}
 
 -- ---- lists that rise: every element stands in the relation to all that follow it
 

@@ -1,7 +1,7 @@
 -- THE NODES ARE THE HEADS: every head of a pattern is at one place of the list of nodes, and its number is that place; the numbers go breadth-first,
 -- and on one level in the lexicographic order, since a level is built by putting each head into its place.
 use mathlib.Core.Path.{_≡_, refl, sym, _∙_, ap, subst}
-use mathlib.Core.Bool.{Bool, true, false, cond, _&&_}
+use mathlib.Core.Bool.{Bool, true, false, cond}
 use mathlib.Core.Logic.{_⊎_, inl, inr, _↔_}
 use mathlib.Core.List.{List, [], _∷_, map, flatten, foldr, List·Memᴰ, List·Memᴰ·head, List·Memᴰ·tail, List·Memᴰ·not-nil, List·Memᴰ·cases-cons}
 use Prim.Native.Nat.{ℕ, zero, suc, pred, _-_, _≤_, _<_}
@@ -12,20 +12,20 @@ use lib.Dec.{T, leb, leb→le, le→leb}
 use lib.ListN.{length, getD, take, length-take, length-drop, drop-of-length-le}
 use lib.Seq.{length-take-le}
 use Rattle.lists.proofs.Select.{getD-mem, mem-select}
-use Rattle.lists.specs.Prelude.{tabulate, select, any, all, same, begins, lastBelow, lastOf}
+use Rattle.lists.specs.Prelude.{tabulate, select, any, same, begins, lastBelow, lastOf}
 use Rattle.lists.proofs.Order.{T-true, true-T}
-use Rattle.lists.proofs.Lists.{and-split, same-eq, eq-same, same-refl, any-mem, mem-any, all-mem, mem-all, lastBelow-le, lastBelow-passes}
+use Rattle.lists.proofs.Lists.{same-eq, eq-same, same-refl, any-mem, mem-any, all-mem, lastBelow-le, lastBelow-passes}
 use Rattle.lists.proofs.Members.{mem-map, mem-flatten-tabulate, flatten-tabulate}
-use Rattle.pattern_set.specs.PatternSet.{PatternSet, goodPattern, goodSet}
-use Rattle.realization.specs.Realizable.{realizable}
-use Rattle.realization.specs.LeastRealization.{leastRealization}
-use Rattle.cartesian.specs.Distances.{distances}
+use Rattle.pattern_set.specs.PatternSet.{PatternSet, goodSet}
+use Rattle.realization.specs.Realization.{realizable, leastRealization}
+use Rattle.cartesian.specs.Cartesian.{distances}
 use Rattle.cartesian.proofs.Seek.{length-distances}
-use Rattle.matching.specs.Heads.{isHead, headTree, failure}
+use Rattle.matching.specs.Matching.{isHead, headTree, failure}
 use Rattle.matching.proofs.Heads.{headTree-isHead, realizable-take, head-shorter}
-use Rattle.model.specs.Nodes.{before, putIn, level, nodes, headOf, placeIn, nodeOf}
+use Rattle.model.specs.Automaton.{before, putIn, level, nodes, headOf, placeIn, nodeOf}
 use Rattle.model.proofs.More.{Rising, rising-at, rising-append, rising-weaken}
 use Rattle.model.proofs.Before.{before-irrefl, before-trans, before-total, before-asym, before-antisym, before-nil}
+use Rattle.pattern_set.proofs.Good.{good-pattern, good-realizable}
 
 -- ---- a list put into its place
 
@@ -185,20 +185,7 @@ node-is-head ps h m =
     mem-level ps (r .0) h .0 (r .2) .0
 
 pub good-length : (ps : PatternSet) → T (goodSet ps) → (p : List ℕ) → List·Memᴰ p ps → (0 < length p) × (length p ≤ 256)
-unfolding goodSet goodPattern
-good-length ps g p m =
-    let s = and-split (leb (length ps) 64 && leb (length (flatten ps)) 4096) (all goodPattern ps) g in
-    let t = all-mem goodPattern ps (s .1) p m in
-    let u = and-split (leb 1 (length p) && leb (length p) 256) (realizable p) t in
-    let v = and-split (leb 1 (length p)) (leb (length p) 256) (u .0) in
-    (leb→le 1 (length p) (v .0), leb→le (length p) 256 (v .1))
-
-pub good-realizable : (ps : PatternSet) → T (goodSet ps) → T (all realizable ps)
-unfolding goodSet goodPattern
-good-realizable ps g =
-    let s = and-split (leb (length ps) 64 && leb (length (flatten ps)) 4096) (all goodPattern ps) g in
-    mem-all realizable ps
-    (λ p m. and-split (leb 1 (length p) && leb (length p) 256) (realizable p) (all-mem goodPattern ps (s .1) p m) .1)
+good-length ps g p m = let k = good-pattern ps p g m in (k .0, k .1)
 
 -- a head is no longer than its pattern
 pub head-length : (ps : PatternSet) → T (goodSet ps) → (h : List ℕ) → T (isHead ps h) → length h ≤ 256

@@ -1,45 +1,24 @@
 -- A push keeps the open minima good, whatever state they came from. Without the oldest where it is too old, all are among the last 255, so they are at most 255 and the slot after theirs is none of theirs; those kept are a front of them, whose newest is not above the value pushed.
-use mathlib.Core.Path.{_≡_, refl, sym, _∙_, ap, subst}
-use mathlib.Core.Bool.{Bool, true, false, cond}
-use Prim.Native.Nat.{ℕ, zero, suc, _+_, _-_, _%_, _≤_, _<_}
+use mathlib.Core.Path.{_≡_, refl, sym, ap, subst}
+use mathlib.Core.Bool.{Bool, true, false}
+use Prim.Native.Nat.{ℕ, zero, suc, _+_, _-_, _≤_, _<_}
 use native.Mathlib.Omega.{arith}
-use native.Mathlib.Nat.{mod-add-mod}
 use native.Mathlib.Decide.{decLt}
 use lib.Dec.{T, leb, ltb, le→leb, ltb→lt, lt→ltb}
 use lib.IntN.{ℤ, pos}
 use lib.Signed.{leZ}
-use lib.ListN.{length, getD, set}
+use lib.ListN.{length, getD}
 use lib.Seq.{getD-set-same, getD-set-other}
-use Rattle.lists.proofs.Lists.{and-split, and-join, lastBelow-le, lastBelow-passes}
+use Rattle.lists.proofs.Lists.{and-split, and-join, lastBelow-passes}
 use Rattle.lists.proofs.Order.{T-true}
 use Rattle.answers.specs.declared.SearchState.{SearchState}
-use Rattle.model.specs.State.{slot, placeAt, valueAt, aged, kept, pushed}
-use Rattle.open_minima.specs.Parts.{isOld}
+use Rattle.model.specs.Search.{slot, placeAt, valueAt, aged, kept, pushed}
 use Rattle.open_minima.proofs.More.{rising-count}
-use Rattle.open_minima.proofs.Good.{Good, good-below}
+use Rattle.model.proofs.Minima.{Good}
+use Rattle.open_minima.proofs.Good.{good-below}
+use Rattle.model.proofs.Ring.{oldestIsOld, without, put, slot-lt, slots-differ, aged-without, slot-next, kept-le, pushed-put}
 
 -- ---- without the oldest
-
-abbrev tooOld : SearchState → Bool
-tooOld st = isOld (st .taken) (st .minima) (st .first) (st .places)
-
-abbrev without : SearchState → Bool → SearchState
-without st old = record {
-  taken = st .taken;
-  node = st .node;
-  minima = cond old (st .minima - 1) (st .minima);
-  first = cond old ((st .first + 1) % 256) (st .first);
-  places = st .places;
-  values = st .values;
-}
-
-aged-without : (st : SearchState) → aged st ≡ without st (tooOld st)
-unfolding aged
-aged-without st = refl
-
--- the slots are the next ones
-slot-next : (st : SearchState) (i : ℕ) → slot (without st true) i ≡ slot st (suc i)
-slot-next st i = mod-add-mod (st .first + 1) 256 i ∙ ap (λ (k : ℕ). k % 256) (omega arith)
 
 place-next : (st : SearchState) (i : ℕ) → placeAt (without st true) i ≡ placeAt st (suc i)
 place-next st i = ap (λ (k : ℕ). getD (st .places) k 0) (slot-next st i)
@@ -78,10 +57,10 @@ young-young st g f = record {
     recent (suc i) h = omega (arith, recent i (omega arith), g .rises i h)
 
 pub aged-young : (st : SearchState) → Good st → Young (aged st)
-aged-young st g = rw aged-without (go (tooOld st) refl)
+aged-young st g = rw aged-without (go (oldestIsOld st) refl)
   where
-    go : (b : Bool) → tooOld st ≡ b → Young (without st b)
-    go true e = young-old st g (ltb→lt 0 (st .minima) (and-split (ltb 0 (st .minima)) (leb (placeAt st 0 + 256) (st .taken)) (T-true (tooOld st) e) .0))
+    go : (b : Bool) → oldestIsOld st ≡ b → Young (without st b)
+    go true e = young-old st g (ltb→lt 0 (st .minima) (and-split (ltb 0 (st .minima)) (leb (placeAt st 0 + 256) (st .taken)) (T-true (oldestIsOld st) e) .0))
     go false e = young-young st g (λ h. oldest h (decLt (st .taken) (placeAt st 0 + 256)))
       where
         oldest : 0 < st .minima → Dec (st .taken < placeAt st 0 + 256) → st .taken < placeAt st 0 + 256
@@ -94,35 +73,9 @@ young-few st g =
 
 -- ---- the push
 
-pub kept-le : (st : SearchState) (x : ℤ) → kept st x ≤ st .minima
-unfolding kept
-kept-le st x = lastBelow-le (λ i. leZ (valueAt st i) x) (st .minima)
-
 kept-passes : (st : SearchState) (x : ℤ) (i : ℕ) → kept st x ≡ suc i → T (leZ (valueAt st i) x)
 unfolding kept
 kept-passes st x i e = lastBelow-passes (λ i. leZ (valueAt st i) x) (st .minima) i e
-
--- the new value on top of those that it does not close
-abbrev put : SearchState → ℤ → ℕ → SearchState
-put a x node = record {
-  taken = a .taken + 1;
-  node = node;
-  minima = kept a x + 1;
-  first = a .first;
-  places = set (a .places) (slot a (kept a x)) (a .taken);
-  values = set (a .values) (slot a (kept a x)) x;
-}
-
-pushed-put : (st : SearchState) (x : ℤ) (node : ℕ) → pushed st x node ≡ put (aged st) x node
-unfolding pushed aged
-pushed-put st x node = refl
-
--- 256 slots in a row are different
-slots-differ : (st : SearchState) (i n : ℕ) → i < n → n < 256 → slot st i ≡ slot st n → ⊥
-slots-differ st i n h k e = omega arith
-
-slot-lt : (st : SearchState) (i : ℕ) → slot st i < 256
-slot-lt st i = omega arith
 
 module _ (a : SearchState) (x : ℤ) (node : ℕ) (g : Young a) (p : length (a .places) ≡ 256) (v : length (a .values) ≡ 256) where
   few : kept a x < 256

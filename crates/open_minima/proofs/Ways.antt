@@ -6,7 +6,7 @@ use Prim.Native.Nat.{ℕ, zero, suc, _+_, _-_, _%_, _≤_, _<_}
 use native.Mathlib.Omega.{arith}
 use native.Mathlib.Numerals.{add-one, sub-one}
 use native.Mathlib.Decide.{decLt}
-use borrow.Author.Tests.{lt-ltb, le-ltb, le-leb, lt-leb, eq-eqb, ne-eqb}
+use borrow.Author.Tests.{lt-ltb, le-ltb, eq-eqb, ne-eqb, leb-true}
 use lib.Dec.{T, leb, ltb, eqb, ltb→lt, lt→ltb}
 use lib.IntN.{ℤ, pos}
 use lib.Signed.{leZ}
@@ -14,22 +14,20 @@ use lib.ListN.{getD, set}
 use Rattle.lists.proofs.Lists.{and-split, and-join, test-ext, lastBelow-le}
 use Rattle.lists.proofs.Order.{T-true, true-T}
 use Rattle.answers.specs.declared.SearchState.{SearchState}
-use Rattle.model.specs.State.{slot, placeAt, valueAt, goodMinima, aged, kept, back, distanceOf, pushed}
-use Rattle.open_minima.specs.Parts.{stateOf, placeIn, valueIn, isOld, keptIn, follows, inOrder, IsPushed}
+use Rattle.model.specs.Search.{slot, placeAt, valueAt, goodMinima, aged, kept, back, distanceOf, pushed}
+use Rattle.open_minima.specs.Parts.{stateOf, placeIn, valueIn, between, minimaIn, IsRing, isOld, keptIn, backFrom, follows, inOrder, IsPushed}
 use Rattle.open_minima.proofs.Good.{good, is-good, not-good, good-below, good-few}
 use Rattle.open_minima.proofs.Push.{aged-young, young-few}
 
 -- ---- one function each
 
--- is the oldest too old
-pub old-none : (taken minima first : ℕ) (places : List ℕ) → minima ≡ 0 → isOld taken minima first places ≡ false
-old-none taken minima first places e = rw (le-ltb 0 minima (omega arith)) refl
-
-pub old-yes : (taken minima first : ℕ) (places : List ℕ) → 0 < minima → placeIn first places 0 + 256 ≤ taken → isOld taken minima first places ≡ true
-old-yes taken minima first places h k = true-T (isOld taken minima first places) (and-join (ltb 0 minima) (leb (placeIn first places 0 + 256) taken) (lt→ltb 0 minima h) (T-true (leb (placeIn first places 0 + 256) taken) (le-leb (placeIn first places 0 + 256) taken k)))
-
-pub old-no : (taken minima first : ℕ) (places : List ℕ) → 0 < minima → taken < placeIn first places 0 + 256 → isOld taken minima first places ≡ false
-old-no taken minima first places h k = rw (lt-ltb 0 minima h) (lt-leb (placeIn first places 0 + 256) taken k)
+-- 1 or 0
+pub old-one : (taken place old : ℕ) → old ≡ cond (leb (place + 256) taken) 1 0 → old ≤ 1
+old-one taken place old e = go (leb (place + 256) taken) e
+  where
+    go : (b : Bool) → old ≡ cond b 1 0 → old ≤ 1
+    go true e = omega arith
+    go false e = omega arith
 
 -- the distance
 pub back-none : (n d : ℕ) → n ≡ 0 → 0 ≡ cond (eqb n 0) 0 d
@@ -37,6 +35,14 @@ back-none n d e = rw (eq-eqb n 0 e) refl
 
 pub back-some : (n d : ℕ) → (n ≡ 0 → ⊥) → d ≡ cond (eqb n 0) 0 d
 back-some n d f = rw (ne-eqb n 0 f) refl
+
+-- the slot before a slot holds the newest of those between
+pub between-back : (start at : ℕ) → start < 256 → at < 256 → (at ≡ start → ⊥) → (0 < between start at) × (between start ((at + 255) % 256) ≡ between start at - 1) × ((at + 255) % 256 ≡ (start + (between start at - 1)) % 256)
+between-back start at h k f = (omega arith, omega arith, omega arith)
+
+-- and a slot is that behind them
+pub between-slot : (start at : ℕ) → start < 256 → at < 256 → at ≡ (start + between start at) % 256
+between-slot start at h k = omega arith
 
 -- the next open minimum follows
 pub follows-not : (first : ℕ) (places : List ℕ) (values : List ℤ) (i a b : ℕ) → a ≡ (first + i) % 256 → b ≡ (first + (i + 1)) % 256 → getD places b 0 ≤ getD places a 0 → false ≡ follows first places values i
@@ -139,7 +145,7 @@ good-ordered st h k e l = test-ext (inOrder (st .first) (st .places) (st .values
 -- ---- the push
 
 -- the ring's start and the number of open minima once the oldest is dropped where it is too old
-abbrev startOf : ℕ → ℕ → ℕ → List ℕ → ℕ
+abbrev pub startOf : ℕ → ℕ → ℕ → List ℕ → ℕ
 startOf taken minima first places = cond (isOld taken minima first places) ((first + 1) % 256) first
 
 abbrev youngOf : ℕ → ℕ → ℕ → List ℕ → ℕ
@@ -153,30 +159,109 @@ young-count taken minima first places values young e q =
     let h : youngOf taken minima first places ≤ 255 = young-few (aged st) (aged-young st (good st e)) in
     rw q h
 
--- the newest that is kept is before the next place
-pub young-below : (taken minima first : ℕ) (places : List ℕ) (values : List ℤ) (x : ℤ) (start young n : ℕ) → goodMinima (stateOf taken minima first places values) ≡ true → start ≡ startOf taken minima first places → young ≡ youngOf taken minima first places → n ≡ keptIn start values x young → 0 < n → placeIn start places (n - 1) < taken
-unfolding aged
-young-below taken minima first places values x start young n e p q k h =
-    let st = stateOf taken minima first places values in
-    let l : n - 1 < youngOf taken minima first places = omega (arith, q, k, lastBelow-le (λ i. leZ (valueIn start values i) x) young) in
-    let b : placeIn (startOf taken minima first places) places (n - 1) < taken = aged-young st (good st e) .below (n - 1) l in
-    rw p b
-
 back-cond : (a : SearchState) (n : ℕ) → back a n ≡ cond (eqb n 0) 0 (a .taken - placeAt a (n - 1))
 back-cond a zero = refl
 back-cond a (suc n) = rw (ne-eqb (suc n) 0 (λ h. (let z : ⊥ = omega arith in z)), sub-one) refl
 
+-- the number of open minima by their slots
+minima-some : (taken first next : ℕ) → 0 < taken → minimaIn taken first next ≡ (next + 255 - first) % 256 + 1
+minima-some taken first next h = rw (ne-eqb taken 0 (λ e. (let z : ⊥ = omega arith in z))) refl
+
+minima-zero : (taken first next : ℕ) → taken ≡ 0 → minimaIn taken first next ≡ 0
+minima-zero taken first next e = rw (eq-eqb taken 0 e) refl
+
+-- where the ring starts without the oldest, if that is too old
+pub old-start : (taken first next : ℕ) (places : List ℕ) (start : ℕ) → first < 256 → start ≡ (first + cond (leb (getD places first 0 + 256) taken) 1 0) % 256
+    → start ≡ startOf taken (minimaIn taken first next) first places
+old-start taken first next places start h e = go (leb (getD places first 0 + 256) taken) refl (decLt 0 taken)
+  where
+    same : first ≡ (first + 0) % 256
+    same = omega arith
+
+    old : (m b : Bool) → ltb 0 (minimaIn taken first next) ≡ m → leb (getD places first 0 + 256) taken ≡ b → isOld taken (minimaIn taken first next) first places ≡ m && b
+    old m b p q = ap₂ (λ (x y : Bool). x && y) p (ap (λ (k : ℕ). leb (getD places k 0 + 256) taken) (sym same) ∙ q)
+
+    some : 0 < taken → ltb 0 (minimaIn taken first next) ≡ true
+    some l = lt-ltb 0 (minimaIn taken first next) (omega (arith, minima-some taken first next l))
+
+    none : (b : Bool) → b && false ≡ false
+    none true = refl
+    none false = refl
+
+    moved : (b : Bool) → isOld taken (minimaIn taken first next) first places ≡ b → leb (getD places first 0 + 256) taken ≡ b → (first + cond b 1 0) % 256 ≡ cond b ((first + 1) % 256) first
+        → start ≡ startOf taken (minimaIn taken first next) first places
+    moved b i l w = e ∙ ap (λ (c : Bool). (first + cond c 1 0) % 256) l ∙ w ∙ ap (λ (c : Bool). cond c ((first + 1) % 256) first) (sym i)
+
+    go : (b : Bool) → leb (getD places first 0 + 256) taken ≡ b → Dec (0 < taken) → start ≡ startOf taken (minimaIn taken first next) first places
+    go true l (yes t) = moved true (old true true (some t) l) l refl
+    go true l (no t) = absurd (let z : ⊥ = omega (arith, leb-true (getD places first 0 + 256) taken l) in z)
+    go false l t = moved false (old (ltb 0 (minimaIn taken first next)) false refl l ∙ none (ltb 0 (minimaIn taken first next))) l (omega arith)
+
+-- those between two slots: without the oldest, with it, and where nothing is taken
+between-all : (first next start m : ℕ) → first < 256 → next < 256 → start ≡ (first + 1) % 256 → m ≡ (next + 255 - first) % 256 + 1 → between start next ≡ m - 1
+between-all first next start m h k e q = omega arith
+
+between-few : (first next start m : ℕ) → first < 256 → next < 256 → start ≡ first → m ≡ (next + 255 - first) % 256 + 1 → m ≤ 255 → between start next ≡ m
+between-few first next start m h k e q l = omega arith
+
+between-none : (first next start m : ℕ) → first < 256 → start ≡ first → next ≡ first → m ≡ 0 → between start next ≡ m
+between-none first next start m h e f q = omega arith
+
+-- what is left lies between the slots
+pub young-between : (taken first next : ℕ) (places : List ℕ) (values : List ℤ) (start : ℕ) → IsRing taken first next → goodMinima (stateOf taken (minimaIn taken first next) first places values) ≡ true
+    → start ≡ startOf taken (minimaIn taken first next) first places → between start next ≡ youngOf taken (minimaIn taken first next) first places
+young-between taken first next places values start r g e =
+    go (isOld taken (minimaIn taken first next) first places) refl e (young-count taken (minimaIn taken first next) first places values (youngOf taken (minimaIn taken first next) first places) g refl) (decLt 0 taken)
+  where
+    go : (b : Bool) → isOld taken (minimaIn taken first next) first places ≡ b → start ≡ cond b ((first + 1) % 256) first → cond b (minimaIn taken first next - 1) (minimaIn taken first next) ≤ 255 → Dec (0 < taken)
+        → between start next ≡ cond b (minimaIn taken first next - 1) (minimaIn taken first next)
+    go true i e l (yes t) = between-all first next start (minimaIn taken first next) (r .start) (r .stop) e (minima-some taken first next t)
+    go true i e l (no t) =
+        let h = ltb→lt 0 (minimaIn taken first next) (and-split (ltb 0 (minimaIn taken first next)) (leb (placeIn first places 0 + 256) taken) (T-true (isOld taken (minimaIn taken first next) first places) i) .0) in
+        absurd (let z : ⊥ = omega (arith, h, minima-zero taken first next (omega arith)) in z)
+    go false i e l (yes t) = between-few first next start (minimaIn taken first next) (r .start) (r .stop) e (minima-some taken first next t) l
+    go false i e l (no t) = between-none first next start (minimaIn taken first next) (r .start) e (r .empty (omega arith)) (minima-zero taken first next (omega arith))
+
+-- and their places are before the next one
+pub young-below : (taken first next : ℕ) (places : List ℕ) (values : List ℤ) (start : ℕ) → IsRing taken first next → goodMinima (stateOf taken (minimaIn taken first next) first places values) ≡ true
+    → start ≡ startOf taken (minimaIn taken first next) first places → (j : ℕ) → j < between start next → placeIn start places j < taken
+unfolding aged
+young-below taken first next places values start r g e j h =
+    let st = stateOf taken (minimaIn taken first next) first places values in
+    let l : j < youngOf taken (minimaIn taken first next) first places = omega (arith, young-between taken first next places values start r g e) in
+    let b : placeIn (startOf taken (minimaIn taken first next) first places) places j < taken = aged-young st (good st g) .below j l in
+    rw e b
+
+pub start-lt : (taken minima first : ℕ) (places : List ℕ) (start : ℕ) → first < 256 → start ≡ startOf taken minima first places → start < 256
+start-lt taken minima first places start h e = go (isOld taken minima first places) e
+  where
+    go : (b : Bool) → start ≡ cond b ((first + 1) % 256) first → start < 256
+    go true e = omega arith
+    go false e = omega arith
+
+-- the value pushed lies behind the n that are kept
+pushed-between : (start n at : ℕ) → start < 256 → n ≤ 255 → at ≡ (start + n) % 256 → ((at + 1) % 256 + 255 - start) % 256 ≡ n
+pushed-between start n at h l e = omega arith
+
 -- what the parts of the push make together
-pub is-pushed : (taken minima first : ℕ) (places : List ℕ) (values : List ℤ) (x : ℤ) (start young n d at : ℕ) (ps : List ℕ) (vs : List ℤ) → start ≡ startOf taken minima first places → young ≡ youngOf taken minima first places → n ≡ keptIn start values x young → d ≡ cond (eqb n 0) 0 (taken - placeIn start places (n - 1)) → at ≡ (start + n) % 256 → ps ≡ set places at taken → vs ≡ set values at x → IsPushed (stateOf taken minima first places values) x ps vs (record { first = start; minima = n + 1; distance = d })
+pub is-pushed : (taken first next : ℕ) (places : List ℕ) (values : List ℤ) (x : ℤ) (start at d : ℕ) (ps : List ℕ) (vs : List ℤ) → IsRing taken first next → goodMinima (stateOf taken (minimaIn taken first next) first places values) ≡ true
+    → start ≡ startOf taken (minimaIn taken first next) first places → at ≡ (start + keptIn start values x (between start next)) % 256 → d ≡ backFrom taken start places (keptIn start values x (between start next)) → ps ≡ set places at taken → vs ≡ set values at x
+    → IsPushed (stateOf taken (minimaIn taken first next) first places values) x ps vs (record { first = start; next = (at + 1) % 256; distance = d })
 unfolding pushed aged kept distanceOf
-is-pushed taken minima first places values x start young n d at ps vs p q k b s u w =
-    let st = stateOf taken minima first places values in
-    let m : n ≡ kept (aged st) x = k ∙ ap₂ (λ (f : ℕ) (y : ℕ). keptIn f values x y) p q in
+is-pushed taken first next places values x start at d ps vs r g p s b u w =
+    let st = stateOf taken (minimaIn taken first next) first places values in
+    let q = young-between taken first next places values start r g p in
+    let few = young-count taken (minimaIn taken first next) first places values (between start next) g q in
+    let n = keptIn start values x (between start next) in
+    let l = lastBelow-le (λ i. leZ (valueIn start values i) x) (between start next) in
+    let m : n ≡ kept (aged st) x = ap₂ (λ (f : ℕ) (y : ℕ). keptIn f values x y) p q in
     let t : at ≡ slot (aged st) (kept (aged st) x) = s ∙ ap₂ (λ (f : ℕ) (y : ℕ). (f + y) % 256) p m in
+    let f = start-lt taken (minimaIn taken first next) first places start (r .start) p in
     record {
       places = u ∙ ap (λ (j : ℕ). set places j taken) t;
       values = w ∙ ap (λ (j : ℕ). set values j x) t;
       first = p;
-      minima = ap (λ (j : ℕ). j + 1) m;
-      distance = b ∙ ap₂ (λ (f : ℕ) (y : ℕ). cond (eqb y 0) 0 (taken - placeIn f places (y - 1))) p m ∙ sym (back-cond (aged st) (kept (aged st) x));
+      minima = minima-some (taken + 1) start ((at + 1) % 256) (omega arith) ∙ ap (λ (j : ℕ). j + 1) (pushed-between start n at f (omega arith) s ∙ m);
+      ring = record { start = f; stop = omega arith; empty = λ e. absurd (let z : ⊥ = omega arith in z) };
+      distance = b ∙ ap₂ (λ (f : ℕ) (y : ℕ). backFrom taken f places y) p m ∙ sym (back-cond (aged st) (kept (aged st) x));
     }

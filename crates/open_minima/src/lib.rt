@@ -1,25 +1,26 @@
 // The ring of open minima of a search state, in arrays that the caller lends: one value pushed, and the check of a state that a caller hands in.
 ghost use mathlib.Core.Path.{_≡_};
 ghost use mathlib.Core.Bool.{true, cond};
-ghost use Prim.Native.Nat.{_+_, _-_, _%_, _≤_, _<_};
-ghost use lib.Dec.{eqb};
+ghost use Prim.Native.Nat.{ℕ, _+_, _%_, _≤_, _<_};
+ghost use lib.Dec.{leb};
 ghost use lib.ListN.{length, getD, set};
 ghost use lib.IntN.{pos};
 ghost use lib.Signed.{leZ};
-ghost use Rattle.model.specs.State.{goodMinima};
-ghost use Rattle.open_minima.specs.Parts.{stateOf, isOld, placeIn, keptIn, follows, inOrder, IsPushed};
+ghost use Rattle.model.specs.Search.{goodMinima};
+ghost use Rattle.open_minima.specs.Parts.{stateOf, placeIn, minimaIn, between, IsRing, keptIn, backFrom, follows, inOrder, IsPushed};
+use answers::SearchState;
 
-// What a push answers: where the ring starts, how many open minima it has, and the distance of the value pushed.
+// What a push answers: the slots where the ring starts and behind its newest open minimum, and the distance of the value pushed.
 pub struct Pushed {
-    pub first: u8,
-    pub minima: u32,
+    pub first: usize,
+    pub next: usize,
     pub distance: u32,
 }
 
-// Where the ring starts and how many open minima it has.
-struct Ring {
-    first: u8,
-    minima: u32,
+// The slot behind the newest open minimum that is kept, and the distance to it, 0 where none is.
+struct Kept {
+    at: usize,
+    distance: u32,
 }
 
 // The slot of open minimum i, the oldest being 0.
@@ -55,51 +56,62 @@ fn not_lower(values: &[i32; 256], a: usize, b: usize) -> bool
     values[a] <= values[b]
 }
 
-// Drops the oldest open minimum where it is not among the last 256 values any more once the next is taken.
-fn drop_oldest(places: &[u32; 256], first: u8, minima: u32, taken: u32) -> Ring
-    requires { ⌜ (0 < minima → placeIn first (now places) 0 < taken) × (taken < 1048576) ⌝ }
-    ensures { λ r. ⌜ r .first ≡ cond (isOld taken minima first (now (places .entry))) ((first + 1) % 256) first ⌝ }
-    ensures { λ r. ⌜ r .minima ≡ cond (isOld taken minima first (now (places .entry))) (minima - 1) minima ⌝ }
+// 1 where the open minimum of the place is not among the last 256 values any more once the next is taken, 0 where it is.
+fn is_old(place: u32, taken: u32) -> usize
+    ensures { λ r. ⌜ r ≡ cond (leb (place + 256) taken) 1 0 ⌝ }
 {
-    if minima == 0 {
-        return Ring { first, minima };
+    if place as usize + SearchState::WINDOW <= taken as usize {
+        1
+    } else {
+        0
     }
-    let oldest = place_at(places, first, 0);
-    if oldest + 256 <= taken {
-        return Ring {
-            first: ((first as u32 + 1) % 256) as u8,
-            minima: minima - 1,
-        };
-    }
-    Ring { first, minima }
 }
 
-// How many open minima are not above value i of the text, from the newest down: the others are closed.
-fn keep(values: &[i32; 256], first: u8, minima: u32, text: &[i32], i: usize) -> u32
-    requires { ⌜ (minima ≤ 256) × (i < length (now text)) ⌝ }
-    ensures { λ r. ⌜ r ≡ keptIn first (now (values .entry)) (getD (now (text .entry)) i (pos 0)) minima ⌝ }
+// Where the ring starts once the oldest open minimum is dropped, if it is too old. That is a sum, as a branch would be hard to predict. Where nothing is
+// open, nothing is taken, and no place is too old.
+fn drop_oldest(places: &[u32; 256], first: usize, taken: u32) -> usize
+    requires { ⌜ first < 256 ⌝ }
+    ensures { λ r. ⌜ r ≡ (first + cond (leb (getD (now (places .entry)) first 0 + 256) taken) 1 0) % 256 ⌝ }
 {
-    let mut n = minima;
-    while n > 0 {
-        let at = slot_of(first, n - 1);
-        if not_above(values, at, text, i) {
-            return n;
+    let old = is_old(places[first], taken);
+    (first + old) % 256
+}
+
+// The slot before a slot.
+fn slot_before(at: usize) -> usize
+    requires { ⌜ at < 256 ⌝ }
+    ensures { λ r. ⌜ r ≡ (at + 255) % 256 ⌝ }
+{
+    (at + 255) % 256
+}
+
+// Closes the open minima above value i of the text, from the newest down: they lie from the slot `start` on to before the slot `next`, 255 at most.
+fn keep(
+    places: &[u32; 256],
+    values: &[i32; 256],
+    start: usize,
+    next: usize,
+    taken: u32,
+    text: &[i32],
+    i: usize,
+) -> Kept
+    requires { ⌜ (start < 256) × (next < 256) × (i < length (now text)) ⌝ }
+    requires { ⌜ ((j : ℕ) → j < between start next → placeIn start (now places) j < taken) ⌝ }
+    ensures { λ r. ⌜ r .at ≡ (start + keptIn start (now (values .entry)) (getD (now (text .entry)) i (pos 0)) (between start next)) % 256 ⌝ }
+    ensures { λ r. ⌜ r .distance ≡ backFrom taken start (now (places .entry)) (keptIn start (now (values .entry)) (getD (now (text .entry)) i (pos 0)) (between start next)) ⌝ }
+{
+    let mut at = next;
+    while at != start {
+        let newest = slot_before(at);
+        if not_above(values, newest, text, i) {
+            return Kept {
+                at,
+                distance: taken - places[newest],
+            };
         }
-        n -= 1;
+        at = newest;
     }
-    0
-}
-
-// From the next place back to the newest of the n open minima that are kept; 0 where none is.
-fn distance_back(places: &[u32; 256], first: u8, n: u32, taken: u32) -> u32
-    requires { ⌜ (n ≤ 256) × (0 < n → placeIn first (now places) (n - 1) < taken) ⌝ }
-    ensures { λ r. ⌜ r ≡ cond (eqb n 0) 0 (taken - placeIn first (now (places .entry)) (n - 1)) ⌝ }
-{
-    if n == 0 {
-        return 0;
-    }
-    let newest = place_at(places, first, n - 1);
-    taken - newest
+    Kept { at, distance: 0 }
 }
 
 fn store_place(places: &mut [u32; 256], at: usize, place: u32)
@@ -116,32 +128,42 @@ fn store_value(values: &mut [i32; 256], at: usize, text: &[i32], i: usize)
     values[at] = text[i];
 }
 
-// Takes value i of the text: drops what is too old, closes the open minima above it, and pushes it. The time is that of those closed, and a constant.
+// Takes value i of the text: drops what is too old, closes the open minima above it, and pushes it. The open minima lie from the slot `first` on to
+// before the slot `next`; their number is not kept. The time is that of those closed, and a constant.
 pub fn push_minimum(
     places: &mut [u32; 256],
     values: &mut [i32; 256],
-    first: u8,
-    minima: u32,
+    first: usize,
+    next: usize,
     taken: u32,
     text: &[i32],
     i: usize,
 ) -> Pushed
-    requires { ⌜ (i < length (now text)) × (taken < 1048576) ⌝ }
-    requires { ⌜ goodMinima (stateOf taken minima first (now places) (now values)) ≡ true ⌝ }
-    ensures { λ r. ⌜ IsPushed (stateOf taken minima first (now (places .entry)) (now (values .entry))) (getD (now (text .entry)) i (pos 0)) (now (places .exit)) (now (values .exit)) r ⌝ }
+    requires { ⌜ IsRing taken first next × (i < length (now text)) ⌝ }
+    requires { ⌜ goodMinima (stateOf taken (minimaIn taken first next) first (now places) (now values)) ≡ true ⌝ }
+    ensures { λ r. ⌜ IsPushed (stateOf taken (minimaIn taken first next) first (now (places .entry)) (now (values .entry))) (getD (now (text .entry)) i (pos 0)) (now (places .exit)) (now (values .exit)) r ⌝ }
 {
-    let ring = drop_oldest(places, first, minima, taken);
-    let start = ring.first;
-    let young = ring.minima;
-    let n = keep(values, start, young, text, i);
-    let distance = distance_back(places, start, n, taken);
-    let at = slot_of(start, n);
+    let start = drop_oldest(places, first, taken);
+    let kept = keep(places, values, start, next, taken, text, i);
+    let at = kept.at;
     store_place(places, at, taken);
     store_value(values, at, text, i);
     Pushed {
         first: start,
-        minima: n + 1,
-        distance,
+        next: (at + 1) % 256,
+        distance: kept.distance,
+    }
+}
+
+// How many open minima lie from the slot `first` on to before the slot `next`: none where nothing is taken, and otherwise one at least.
+pub fn count_minima(first: usize, next: usize, taken: u32) -> u32
+    requires { ⌜ (first < 256) × (next < 256) ⌝ }
+    ensures { λ r. ⌜ r ≡ minimaIn taken first next ⌝ }
+{
+    if taken == 0 {
+        0
+    } else {
+        ((next + 255 - first) % 256 + 1) as u32
     }
 }
 

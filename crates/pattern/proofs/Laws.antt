@@ -11,17 +11,14 @@ use lib.Seq.{take-at}
 use borrow.Author.Tests.{ltb-false, not-false, lt-ltb, le-ltb, eq-eqb, ne-eqb}
 use Rattle.lists.proofs.Lists.{length-tabulate}
 use Rattle.lists.proofs.Order.{T-true}
-use Rattle.realization.specs.Realizable.{realizable}
-use Rattle.realization.specs.LeastRealization.{leastRealization}
-use Rattle.realization.specs.FailureLength.{failureLengths}
+use Rattle.realization.specs.Realization.{realizable, leastRealization, failureLengths}
 use Rattle.realization.proofs.LeastRealization.{length-least}
-use Rattle.global_parents.specs.GlobalParents.{globalParent, globalParents}
 use Rattle.ranking.specs.Rank.{factorial, unrank, isRank}
 use Rattle.ranking.proofs.Rank.{length-unrank}
 use Rattle.answers.specs.declared.Refusal.{Refusal}
 use Rattle.answers.specs.Told.{number}
 use Rattle.model.specs.Refusals.{Entry, firstMet, unless, told, after}
-use Rattle.model.specs.PatternEntries.{distancesEntry, listConditions, encodeEntry, decodeEntry}
+use Rattle.model.specs.Entries.{distancesEntry, listConditions, encodeEntry, decodeEntry}
 use Rattle.model.proofs.Refusals.{first-unmet, unless-refused}
 use Rattle.pattern.specs.declared.Checked.{Checked}
 use Rattle.pattern.specs.Checked.{toldChecked}
@@ -159,7 +156,3 @@ length-leastRealization ds e = length-least ds (T-true (realizable ds) e)
 pub length-failureLengths : (ds : List ℕ) → length (failureLengths ds) ≡ length ds
 unfolding failureLengths
 length-failureLengths ds = length-tabulate (length ds) _
-
-pub length-globalParents : (ds : List ℕ) → length (globalParents ds) ≡ length ds
-unfolding globalParents
-length-globalParents ds = length-tabulate (length ds) (globalParent ds)

@@ -27,6 +27,18 @@ getD-offsets o (p ∷ ps) rest zero h = sym (add-zero o)
 getD-offsets o (p ∷ ps) rest (suc j) h =
     getD-offsets (o + length p) ps rest j (omega arith) ∙ rw length-append (omega arith)
 
+-- ---- the first words
+
+pub words-count : (ps : PatternSet) (rest : List ℕ) → getD (setWords ps ++ rest) 0 0 ≡ length ps
+unfolding setWords
+words-count ps rest = refl
+
+pub words-offset : (ps : PatternSet) (rest : List ℕ) (j : ℕ) → j ≤ length ps → getD (setWords ps ++ rest) (2 + j) 0 ≡ length (flatten (take j ps))
+unfolding setWords
+words-offset ps rest j h =
+    let two : 2 + j ≡ suc (suc j) = omega arith in
+    rw (two, append-assoc (offsets 0 ps) (flatten ps) rest) (getD-offsets 0 ps (flatten ps ++ rest) j h ∙ (omega arith))
+
 -- pattern j is what lies from offset j up to the next one
 part-is : (ps : PatternSet) (rest : List ℕ) (j : ℕ) → j < length ps → take (length (flatten (take (suc j) ps)) - length (flatten (take j ps))) (drop (length (flatten (take j ps))) (flatten ps ++ rest)) ≡ getD ps j []
 unfolding flatten
@@ -40,7 +52,7 @@ part-is (p ∷ ps) rest (suc j) h =
     let e : length (p ++ flatten (take (suc j) ps)) - length (p ++ flatten (take j ps)) ≡ a - b = simp length-append (omega arith) in
     rw (e, append-assoc p (flatten ps) rest, length-append p (flatten (take j ps)), drop-append-add p (flatten ps ++ rest) b) (part-is ps rest j (omega arith))
 
-patternIn-words : (ps : PatternSet) (rest : List ℕ) (j : ℕ) → j < length ps → patternIn (setWords ps ++ rest) j ≡ getD ps j []
+pub patternIn-words : (ps : PatternSet) (rest : List ℕ) (j : ℕ) → j < length ps → patternIn (setWords ps ++ rest) j ≡ getD ps j []
 unfolding setWords patternIn
 patternIn-words ps rest j h =
     let front : List ℕ = length ps ∷ length (flatten ps) ∷ offsets 0 ps in

@@ -1,6 +1,6 @@
 -- Sets of patterns and the words they lie in. Document 01: Set.
 use Rattle.lists.specs.Prelude.{Bool, cond, _&&_, List, [], _∷_, _++_, flatten, Option, none, some, ℕ, _+_, _-_, leb, length, getD, take, drop, tabulate, all, begins}
-use Rattle.realization.specs.Realizable.{realizable}
+use Rattle.realization.specs.Realization.{realizable}
 
 -- the patterns' distance lists; a pattern's number is its place
 abbrev pub PatternSet : Type 0

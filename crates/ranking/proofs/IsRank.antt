@@ -6,7 +6,7 @@ use Prim.Native.Nat.{ℕ, _<_}
 use lib.Dec.{T, ltb, ltb→lt, lt→ltb}
 use lib.ListN.{length}
 use Rattle.lists.proofs.Lists.{and-split, and-join}
-use Rattle.realization.specs.Realizable.{Realizable, realizable}
+use Rattle.realization.specs.Realization.{Realizable, realizable}
 use Rattle.realization.proofs.Realizable.{realizable-iff}
 use Rattle.ranking.specs.Rank.{factorial, rank, unrank, isRank}
 use Rattle.ranking.proofs.Rank.{length-unrank, rank-unrank, rank-lt, realizable-ok, decode-encode}

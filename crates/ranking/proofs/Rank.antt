@@ -9,11 +9,11 @@ use lib.ListN.{length, getD}
 use lib.Seq.{ext-getD}
 use Rattle.lists.specs.Prelude.{tabulate}
 use Rattle.lists.proofs.Lists.{length-tabulate, getD-tabulate}
-use Rattle.cartesian.specs.Tree.{tree}
+use Rattle.cartesian.specs.Cartesian.{tree}
 use Rattle.cartesian.proofs.HasTree.{tree-has}
 use Rattle.cartesian.proofs.Structure.{distances-tree}
 use Rattle.cartesian.proofs.Injective.{Ok, ok-app, treeDistances-ok}
-use Rattle.realization.specs.Realizable.{Realizable}
+use Rattle.realization.specs.Realization.{Realizable}
 use Rattle.ranking.specs.Rank.{factorial, rankFrom, rank, unrank}
 use Rattle.ranking.proofs.Arithmetic.{factorial-pos, digit-lt, digit-read, mod-product}
 

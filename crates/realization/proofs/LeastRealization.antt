@@ -10,15 +10,12 @@ use lib.IntN.{ℤ, pos, negsuc}
 use lib.Signed.{leZ, ltZ, _≤ℤ_, _<ℤ_, leZ-yes, ltZ-yes, ≤ℤ-refl}
 use lib.ListN.{length, getD, List·getD-map}
 use Rattle.lists.proofs.Order.{≤ℤ-trans}
-use Rattle.cartesian.specs.Tree.{Tree, leaf, node, size, tree}
-use Rattle.cartesian.specs.Distances.{distances}
-use Rattle.cartesian.specs.TreeOf.{treeOf}
+use Rattle.cartesian.specs.Cartesian.{Tree, leaf, node, size, tree, distances, treeOf}
 use Rattle.cartesian.proofs.Seek.{length-distances}
 use Rattle.cartesian.proofs.HasTree.{Over, over-nil, over-cons, HasTree, empty, root, tree-has, over-at}
 use Rattle.cartesian.proofs.Structure.{treeDistances, distances-tree, length-treeDistances}
 use Rattle.cartesian.proofs.TreeOf.{treeOf-treeDistances, treeOf-distances}
-use Rattle.realization.specs.Realizable.{Realizable, realizable}
-use Rattle.realization.specs.LeastRealization.{leftTurns, leastRealization, NotNegative, IsLeast}
+use Rattle.realization.specs.Realization.{Realizable, realizable, leftTurns, leastRealization, NotNegative, IsLeast}
 use Rattle.realization.proofs.LeftTurns.{risen, risen-over, turns-risen, turns-distances, turns-bound}
 use Rattle.realization.proofs.Realizable.{realizable-iff, realizable-tree}
 

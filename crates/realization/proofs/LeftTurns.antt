@@ -9,11 +9,10 @@ use lib.IntN.{ℤ, pos, negsuc}
 use lib.Signed.{leZ, _≤ℤ_, _<ℤ_, leZ-yes, ltZ-yes}
 use lib.ListN.{length, getD, length-append}
 use Rattle.lists.proofs.Members.{map-append}
-use Rattle.cartesian.specs.Tree.{Tree, leaf, node, size}
-use Rattle.cartesian.specs.Distances.{distances}
+use Rattle.cartesian.specs.Cartesian.{Tree, leaf, node, size, distances}
 use Rattle.cartesian.proofs.HasTree.{Over, over-nil, over-cons, HasTree, empty, root}
 use Rattle.cartesian.proofs.Structure.{treeDistances, distances-tree}
-use Rattle.realization.specs.LeastRealization.{leftTurns}
+use Rattle.realization.specs.Realization.{leftTurns}
 
 -- the left-turn counts, each higher by c
 unfoldable pub risen : ℕ → Tree → List ℤ

@@ -14,12 +14,10 @@ use lib.ListN.{length, length-append}
 use Rattle.lists.proofs.Select.{select-append}
 use Rattle.lists.specs.Prelude.{any, select}
 use Rattle.lists.proofs.Lists.{and-split, and-join, or-cases, or-left, or-right}
-use Rattle.cartesian.specs.Tree.{Tree, leaf, node, size, tree}
-use Rattle.cartesian.specs.Distances.{distances}
+use Rattle.cartesian.specs.Cartesian.{Tree, leaf, node, size, tree, distances}
 use Rattle.cartesian.proofs.HasTree.{tree-has}
 use Rattle.cartesian.proofs.Structure.{orElse, lift, treeDistances, distances-tree, length-treeDistances}
-use Rattle.realization.specs.Realizable.{Realizable, leads, opened, walk, realizable}
-use Rattle.realization.specs.LeastRealization.{leftTurns}
+use Rattle.realization.specs.Realization.{Realizable, leads, opened, walk, realizable, leftTurns}
 use Rattle.realization.proofs.LeftTurns.{turns-distances}
 
 -- ---- lists of open places

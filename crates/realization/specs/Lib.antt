@@ -1,4 +1,2 @@
 -- The root of the crate's definitions.
-pub mod Realizable
-pub mod LeastRealization
-pub mod FailureLength
+pub mod Realization

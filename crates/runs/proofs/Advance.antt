@@ -13,16 +13,17 @@ use lib.ListN.{length}
 use Rattle.lists.specs.Prelude.{tabulate, select, lastBelow, lastOf}
 use Rattle.lists.proofs.Lists.{and-split, and-join, length-lastOf, lastBelow-le, lastBelow-passes, lastBelow-none, lastOf-snoc}
 use Rattle.lists.proofs.Order.{T-true, true-T}
-use Rattle.cartesian.specs.Distances.{distanceAt, distances, cut}
+use Rattle.cartesian.specs.Cartesian.{distanceAt, distances, cut}
 use Rattle.cartesian.proofs.Seek.{length-distances}
 use Rattle.pattern_set.specs.PatternSet.{PatternSet, goodSet}
-use Rattle.matching.specs.Heads.{isHead, headTree, failure}
+use Rattle.matching.specs.Matching.{isHead, headTree, failure}
 use Rattle.matching.proofs.Heads.{headTree-isHead, failure-next}
-use Rattle.model.specs.Step.{extended, advanceWithin, advance}
+use Rattle.model.specs.Search.{extended, advanceWithin, advance}
 use Rattle.runs.specs.ReferenceRun.{longestExtended, attempts, longestHead}
 use Rattle.runs.proofs.More.{count, count-yes, count-gap}
-use Rattle.runs.proofs.Suffixes.{good-realizable, empty-suffix, extended-is}
+use Rattle.runs.proofs.Suffixes.{empty-suffix, extended-is}
 use Rattle.runs.proofs.LongestHead.{headSuffix, extendedSuffix, longestHead-le, longestHead-head, longestHead-none, longestExtended-le, longestExtended-short, longestExtended-passes, longestExtended-none}
+use Rattle.pattern_set.proofs.Good.{good-realizable}
 
 -- is the suffix of m values tried, where the one of q values is the last tried
 abbrev pub tried : PatternSet → List ℤ → ℕ → ℕ → Bool

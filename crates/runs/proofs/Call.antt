@@ -2,19 +2,19 @@
 use mathlib.Core.Path.{_≡_, refl, sym, _∙_, ap, ap₂, subst}
 use mathlib.Core.Bool.{Bool, true, false}
 use mathlib.Core.List.{List, [], _∷_, _++_, map, flatten, append-assoc, append-nil}
-use Prim.Native.Nat.{ℕ, zero, suc, _+_, _*_, _-_, _≤_, _<_}
+use Prim.Native.Nat.{ℕ, suc, _+_, _*_, _-_, _≤_, _<_}
 use native.Mathlib.Omega.{arith}
 use lib.Dec.{T, ltb}
 use lib.IntN.{ℤ}
-use lib.ListN.{length, take, length-append}
+use lib.ListN.{length}
 use lib.Seq.{take-append-le, take-all}
 use Rattle.lists.specs.Prelude.{tabulate}
 use Rattle.lists.proofs.Lists.{tabulate-ext, length-snoc}
 use Rattle.lists.proofs.Members.{flatten-tabulate}
 use Rattle.answers.specs.declared.SearchState.{SearchState}
 use Rattle.pattern_set.specs.PatternSet.{PatternSet, goodSet}
-use Rattle.matching.specs.Hits.{lastHits, hitsAt, hits}
-use Rattle.model.specs.Step.{Stepped, step, Called, stop, andThen, feed, call}
+use Rattle.matching.specs.Matching.{lastHits, hitsAt, hits}
+use Rattle.model.specs.Search.{Stepped, step, Called, stop, andThen, feed, call}
 use Rattle.runs.specs.ReferenceRun.{attempts, append, read, longestHead}
 use Rattle.runs.proofs.Attempts.{attempts-bound}
 use Rattle.runs.proofs.Step.{Represents, step-hits, step-attempts, step-state}
@@ -61,7 +61,7 @@ pub record Agrees (ps : PatternSet) (text : List ℤ) (limit : ℕ) (c : Called 
   pub longer : length (r .state) ≡ length text + r .taken
   pub within : r .taken ≤ limit
   pub bound : r .attempts + longestHead ps (r .state) ≤ longestHead ps text + 2 * r .taken
-  pub more : Rattle.matching.specs.Hits.hits ps (r .state) ≡ Rattle.matching.specs.Hits.hits ps text ++ r .hits
+  pub more : Rattle.matching.specs.Matching.hits ps (r .state) ≡ Rattle.matching.specs.Matching.hits ps text ++ r .hits
 
 module _ (ps : PatternSet) (g : T (goodSet ps)) (z : 0 < length ps) where
   agrees-stop : (text : List ℤ) (st : SearchState) (limit e : ℕ) → Represents ps text st → Agrees ps text limit (stop st e) (stop text e)

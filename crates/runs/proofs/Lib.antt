@@ -12,3 +12,4 @@ pub mod Push
 pub mod Step
 pub mod Call
 pub mod Run
+pub mod Demands

@@ -5,42 +5,30 @@ use mathlib.Core.Bool.{Bool, true, false, cond}
 use mathlib.Core.List.{List, [], _∷_, _++_, map, flatten, append-nil, List·Memᴰ, List·Memᴰ·head, List·Memᴰ·tail}
 use Prim.Native.Nat.{ℕ, zero, suc, _+_, _≤_, _<_}
 use native.Mathlib.Omega.{arith}
-use native.Mathlib.Nat.{add-zero, zero-add}
+use native.Mathlib.Nat.{zero-add}
 use native.Mathlib.Decide.{decLt}
 use lib.Dec.{T}
 use lib.IntN.{ℤ}
 use lib.ListN.{length, getD, take}
 use lib.Seq.{take-all}
-use Rattle.lists.proofs.Select.{getD-mem, tabulate-cons}
-use Rattle.lists.specs.Prelude.{tabulate, select, same, lastOf}
+use Rattle.lists.proofs.Select.{getD-mem}
+use Rattle.lists.specs.Prelude.{select, same, lastOf}
 use Rattle.lists.proofs.Lists.{tabulate-ext, test-ext, same-eq, eq-same, mem-any, lastOf-zero}
 use Rattle.lists.proofs.Order.{T-true}
-use Rattle.cartesian.specs.Distances.{distances}
-use Rattle.realization.specs.Realizable.{realizable}
+use Rattle.cartesian.specs.Cartesian.{distances}
+use Rattle.realization.specs.Realization.{realizable}
 use Rattle.pattern_set.specs.PatternSet.{PatternSet, goodSet}
-use Rattle.matching.specs.Hits.{hasTree, numbersFrom, endHits, lastHits}
-use Rattle.matching.specs.Heads.{headTree, headLengths}
+use Rattle.matching.specs.Matching.{hasTree, numbersFrom, endHits, lastHits, headTree}
+use Rattle.matching.specs.HeadLengths.{headLengths}
 use Rattle.matching.proofs.Heads.{hasTree-iff, chain-is}
 use Rattle.matching.proofs.Sizes.{hasTree-length}
-use Rattle.model.specs.Step.{endingAt, listed}
+use Rattle.model.specs.Search.{endingAt, listed}
 use Rattle.runs.specs.ReferenceRun.{longestHead}
-use Rattle.runs.proofs.Suffixes.{good-pattern}
 use Rattle.runs.proofs.LongestHead.{longestHead-le, longestHead-head, longestHead-none}
+use Rattle.pattern_set.proofs.Good.{good-pattern}
+use Rattle.matching.proofs.Numbers.{select-numbers}
 
 -- ---- the patterns that end at one head
-
--- the numbers from i on that pass a test, where the test of i + k tells whether pattern k has the window's tree
-select-numbers : (test : ℕ → Bool) (window : List ℤ) (i : ℕ) (ps : PatternSet) → ((k : ℕ) → k < length ps → test (i + k) ≡ hasTree window (getD ps k []))
-    → select test (tabulate (length ps) (λ k. i + k)) ≡ numbersFrom i window ps
-unfolding select numbersFrom tabulate
-select-numbers test window i [] f = refl
-select-numbers test window i (p ∷ ps) f =
-    ap (select test) (tabulate-cons (length ps) (λ k. i + k) ∙ ap₂ (λ (a : ℕ) (l : List ℕ). a ∷ l) (add-zero i) (tabulate-ext (length ps) (λ k. i + suc k) (λ k. suc i + k) (λ k l. shift k)))
-    ∙ ap₂ (λ (b : Bool) (l : List ℕ). cond b (i ∷ l) l) (ap test (sym (add-zero i)) ∙ f 0 (omega arith))
-    (select-numbers test window (suc i) ps (λ k l. ap test (sym (shift k)) ∙ f (suc k) (omega arith)))
-  where
-    shift : (k : ℕ) → i + suc k ≡ suc i + k
-    shift k = omega arith
 
 -- a realizable list is a window's distances exactly if the window has its tree
 same-hasTree : (p : List ℕ) (window : List ℤ) → T (realizable p) → same p (distances window) ≡ hasTree window p

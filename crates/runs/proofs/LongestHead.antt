@@ -10,12 +10,12 @@ use lib.ListN.{length, take, length-take}
 use Rattle.lists.specs.Prelude.{lastOf}
 use Rattle.lists.proofs.Lists.{and-split, and-join, any-mem, length-lastOf, lastOf-snoc, length-snoc}
 use Rattle.pattern_set.specs.PatternSet.{PatternSet, goodSet}
-use Rattle.matching.specs.Hits.{hasTree}
-use Rattle.matching.specs.Heads.{headTree}
+use Rattle.matching.specs.Matching.{hasTree, headTree}
 use Rattle.matching.proofs.Sizes.{hasTree-length}
 use Rattle.runs.specs.ReferenceRun.{longestExtended, longestHead}
 use Rattle.runs.proofs.More.{greatest-le, greatest-passes, greatest-none, greatest-is, greatest-most}
-use Rattle.runs.proofs.Suffixes.{good-pattern, headTree-shorter, empty-suffix, one-suffix}
+use Rattle.runs.proofs.Suffixes.{headTree-shorter, empty-suffix, one-suffix}
+use Rattle.pattern_set.proofs.Good.{good-pattern}
 
 -- has the suffix of m values the tree of some head
 abbrev pub headSuffix : PatternSet → List ℤ → ℕ → Bool

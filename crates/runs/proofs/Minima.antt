@@ -3,25 +3,26 @@ use mathlib.Core.Path.{_≡_, refl, sym, _∙_, ap, subst}
 use mathlib.Core.Bool.{Bool, true, false, _&&_, _||_}
 use mathlib.Core.Logic.{_⊎_, inl, inr}
 use mathlib.Core.List.{List, [], _∷_, _++_, map}
-use Prim.Native.Nat.{ℕ, suc, _+_, _<_}
+use Prim.Native.Nat.{ℕ, suc, pred, _+_, _<_}
 use native.Mathlib.Omega.{arith}
 use native.Mathlib.Numerals.{add-one}
 use native.Mathlib.Decide.{decLt}
-use lib.Dec.{T, leb, ltb, eqb, leb→le, le→leb, lt→ltb, eqb-refl}
+use lib.Dec.{T, leb, leb→le, le→leb}
 use lib.IntN.{ℤ, pos}
 use lib.Signed.{leZ}
-use lib.ListN.{length, getD, take, length-append, length-replicate, List·getD-append}
-use lib.Seq.{getD-append-seam, take-suc, take-length}
+use lib.ListN.{length, getD, length-append, length-replicate, List·getD-append}
+use lib.Seq.{getD-append-seam}
 use Rattle.lists.proofs.Select.{map-tabulate, select-select}
-use Rattle.lists.specs.Prelude.{tabulate, all, select}
-use Rattle.lists.proofs.Lists.{and-split, and-join, or-cases, or-left, or-right, test-ext, length-tabulate, getD-tabulate}
+use Rattle.lists.specs.Prelude.{tabulate, select}
+use Rattle.lists.proofs.Lists.{and-split, and-join, or-cases, or-left, or-right, test-ext}
 use Rattle.lists.proofs.Order.{true-T}
 use Rattle.lists.proofs.Places.{all-below, below-all}
 use Rattle.answers.specs.declared.SearchState.{SearchState}
 use Rattle.answers.specs.NewSearch.{newSearch}
-use Rattle.model.specs.State.{placeAt, valueAt, rising, neverFalling, afterLast, goodMinima}
+use Rattle.model.specs.Search.{placeAt, valueAt, goodMinima}
+use Rattle.model.proofs.Minima.{good-from}
 use Rattle.runs.specs.ReferenceRun.{isOpen, openPlaces}
-use Rattle.runs.proofs.MoreMinima.{tabulate-at, all-tabulate, select-snoc, select-ext, Selected, selected}
+use Rattle.runs.proofs.MoreMinima.{tabulate-at, select-snoc, select-ext, Selected, selected}
 
 pub record Minima (text : List ℤ) (st : SearchState) : Type 0 where
   pub count : st .taken ≡ length text
@@ -155,58 +156,39 @@ minima-rise text st m i j h k =
 
 -- ---- the check
 
-rising-at : (l : List ℕ) → ((i : ℕ) → suc i < length l → getD l i 0 < getD l (suc i) 0) → T (rising l)
-unfolding rising
-rising-at [] f = tt
-rising-at (p ∷ []) f = tt
-rising-at (p ∷ q ∷ l) f = and-join (ltb p q) (rising (q ∷ l)) (lt→ltb p q (f 0 (omega arith))) (rising-at (q ∷ l) (λ i h. f (suc i) (omega arith)))
+-- the last place is open and recent, so it is that of some open minimum
+last-listed : (text : List ℤ) → 0 < length text → T (isListed text (pred (length text)))
+unfolding isOpen
+last-listed text h =
+    and-join (leb (length text) (pred (length text) + 256)) (isOpen text (pred (length text))) (le→leb (length text) (pred (length text) + 256) (omega arith))
+    (below-all (λ j. leb j (pred (length text)) || leZ (valueOf text (pred (length text))) (valueOf text j)) (length text)
+    (λ j k. or-left (leb j (pred (length text))) (leZ (valueOf text (pred (length text))) (valueOf text j)) (le→leb j (pred (length text)) (omega arith))))
 
-neverFalling-at : (l : List ℤ) → ((i : ℕ) → suc i < length l → T (leZ (valueOf l i) (valueOf l (suc i)))) → T (neverFalling l)
-unfolding neverFalling
-neverFalling-at [] f = tt
-neverFalling-at (x ∷ []) f = tt
-neverFalling-at (x ∷ y ∷ l) f = and-join (leZ x y) (neverFalling (y ∷ l)) (f 0 (omega arith)) (neverFalling-at (y ∷ l) (λ i h. f (suc i) (omega arith)))
-
-afterLast-snoc : (l : List ℕ) (n : ℕ) → afterLast (l ++ (n ∷ [])) ≡ suc n
-unfolding afterLast
-afterLast-snoc [] n = refl
-afterLast-snoc (p ∷ []) n = refl
-afterLast-snoc (p ∷ q ∷ l) n = afterLast-snoc (q ∷ l) n
-
--- the open minima end with the last place
-afterLast-open : (text : List ℤ) → afterLast (openPlaces text) ≡ length text
-unfolding openPlaces tabulate select afterLast
-afterLast-open [] = refl
-afterLast-open (y ∷ ys) = subst (λ (l : List ℤ). afterLast (openPlaces l) ≡ length l) (sym split) (last (take (length ys) (y ∷ ys)) (valueOf (y ∷ ys) (length ys)))
-  where
-    split : y ∷ ys ≡ take (length ys) (y ∷ ys) ++ (valueOf (y ∷ ys) (length ys) ∷ [])
-    split = sym (take-length (y ∷ ys)) ∙ take-suc (y ∷ ys) (length ys) (pos 0) (omega arith)
-
-    last : (text : List ℤ) (x : ℤ) → afterLast (openPlaces (text ++ (x ∷ []))) ≡ length (text ++ (x ∷ []))
-    last text x = rw (openPlaces-more text x, length-more) (afterLast-snoc (select (λ i. leZ (valueOf text i) x) (select (young (length text)) (openPlaces text))) (length text))
+last-found : (text : List ℤ) (st : SearchState) → Minima text st → 0 < length text → (i : ℕ) × (i < st .minima) × (placeAt st i ≡ pred (length text))
+last-found text st m h = minima-selected text st m .found (pred (length text)) (omega arith) (last-listed text h)
 
 pub minima-good : (text : List ℤ) (st : SearchState) → Minima text st → T (goodMinima st)
-unfolding goodMinima
-minima-good text st m =
-    let s = minima-selected text st m in
-    let n = st .minima in
-    let ps : List ℕ = tabulate n (placeAt st) in
-    let vs : List ℤ = tabulate n (valueAt st) in
-    let recent : ℕ → Bool = λ p. leb (st .taken) (p + 256) in
-    let ended : afterLast ps ≡ st .taken = ap afterLast (m .places) ∙ afterLast-open text ∙ sym (m .count) in
-    and-join (rising ps && all recent ps && eqb (afterLast ps) (st .taken)) (neverFalling vs)
-    (and-join (rising ps && all recent ps) (eqb (afterLast ps) (st .taken))
-    (and-join (rising ps) (all recent ps) (rising-at ps (λ i h. rise i (rw length-tabulate at h)))
-    (all-tabulate recent n (placeAt st) (λ i h. rw (m .count) (and-split (leb (length text) (placeAt st i + 256)) (isOpen text (placeAt st i)) (s .passes i h) .0))))
-    (rw ended (eqb-refl (st .taken))))
-    (neverFalling-at vs (λ i h. climb i (rw length-tabulate at h)))
+minima-good text st m = good-from st (record {
+  rises = λ i h. s .rises i (suc i) (omega arith) h;
+  recent = λ i h. rw (m .count) (leb→le (length text) (placeAt st i + 256) (and-split (leb (length text) (placeAt st i + 256)) (isOpen text (placeAt st i)) (s .passes i h) .0));
+  ends = λ i h. ends i h (last-found text st m (omega (arith, s .below i (omega arith))));
+  empty = λ h. empty h (decLt 0 (length text));
+  climbs = λ i h. rw (minima-value text st m i (omega arith), minima-value text st m (suc i) h) (minima-rise text st m i (suc i) (omega arith) h);
+})
   where
-    rise : (i : ℕ) → suc i < st .minima → getD (tabulate (st .minima) (placeAt st)) i 0 < getD (tabulate (st .minima) (placeAt st)) (suc i) 0
-    rise i h =
-        rw (getD-tabulate (st .minima) (placeAt st) 0 i (omega arith), getD-tabulate (st .minima) (placeAt st) 0 (suc i) h)
-        (minima-selected text st m .rises i (suc i) (omega arith) h)
+    s : Selected (isListed text) (length text) (st .minima) (placeAt st)
+    s = minima-selected text st m
 
-    climb : (i : ℕ) → suc i < st .minima → T (leZ (valueOf (tabulate (st .minima) (valueAt st)) i) (valueOf (tabulate (st .minima) (valueAt st)) (suc i)))
-    climb i h =
-        rw (getD-tabulate (st .minima) (valueAt st) (pos 0) i (omega arith), getD-tabulate (st .minima) (valueAt st) (pos 0) (suc i) h, minima-value text st m i (omega arith), minima-value text st m (suc i) h)
-        (minima-rise text st m i (suc i) (omega arith) h)
+    -- nothing is open after the last place, so its open minimum is the newest
+    ends : (i : ℕ) → suc i ≡ st .minima → (j : ℕ) × (j < st .minima) × (placeAt st j ≡ pred (length text)) → suc (placeAt st i) ≡ st .taken
+    ends i h f = go (decLt (f .0) i)
+      where
+        go : Dec (f .0 < i) → suc (placeAt st i) ≡ st .taken
+        go (yes k) = absurd (let z : ⊥ = omega (arith, f .2, s .rises (f .0) i k (omega arith), s .below i (omega arith)) in z)
+        go (no g) =
+            let e : f .0 ≡ i = omega (arith, f .1) in
+            omega (arith, m .count, subst (λ (j : ℕ). placeAt st j ≡ pred (length text)) e (f .2), s .below i (omega arith))
+
+    empty : st .minima ≡ 0 → Dec (0 < length text) → st .taken ≡ 0
+    empty h (yes k) = absurd (let f = last-found text st m k in let z : ⊥ = omega (arith, f .1) in z)
+    empty h (no g) = omega (arith, m .count)

@@ -1,15 +1,14 @@
 -- Laws of lists that the crate `lists` lacks: the greatest number up to n that passes a test, how many numbers below n pass one, a table from its front, an element as a member, and suffixes of a list with one more element.
 use mathlib.Core.Path.{_≡_, refl, sym, _∙_, ap, subst}
 use mathlib.Core.Bool.{Bool, true, false, cond}
-use mathlib.Core.List.{List, [], _∷_, _++_, List·Memᴰ, List·Memᴰ·head, List·Memᴰ·tail}
+use mathlib.Core.List.{[], _∷_}
 use Prim.Native.Nat.{ℕ, zero, suc, pred, _+_, _-_, _≤_, _<_}
 use native.Mathlib.Omega.{arith}
 use native.Mathlib.Decide.{decLt}
 use lib.Dec.{T}
-use lib.ListN.{length, getD, drop, length-append, drop-of-length-le}
-use lib.Seq.{drop-append-le}
+use lib.ListN.{length, length-append}
 use Rattle.lists.proofs.Select.{select-append}
-use Rattle.lists.specs.Prelude.{tabulate, lastBelow, lastOf, select}
+use Rattle.lists.specs.Prelude.{tabulate, lastBelow, select}
 use Rattle.lists.proofs.Lists.{lastBelow-le, lastBelow-passes, lastBelow-none, lastBelow-is}
 use Rattle.lists.proofs.Order.{true-T}
 

@@ -1,8 +1,8 @@
 -- General laws of `select`, `tabulate` and of the places below a number that pass a test: they rise, and are just those that pass.
 use mathlib.Core.Path.{_≡_, refl, sym, _∙_, ap, ap₂, subst}
-use mathlib.Core.Bool.{Bool, true, false, cond, _&&_}
+use mathlib.Core.Bool.{Bool, true, false, cond}
 use mathlib.Core.Logic.{_⊎_, inl, inr}
-use mathlib.Core.List.{List, [], _∷_, _++_, map, append-nil}
+use mathlib.Core.List.{List, [], _∷_, _++_, append-nil}
 use Prim.Native.Nat.{ℕ, zero, suc, _+_, _≤_, _<_}
 use native.Mathlib.Omega.{arith}
 use native.Mathlib.Decide.{decLt}
@@ -13,7 +13,6 @@ use Rattle.lists.proofs.Select.{select-append}
 use Rattle.lists.specs.Prelude.{tabulate, lastBelow, all, select}
 use Rattle.lists.proofs.Lists.{and-split, and-join, length-tabulate, getD-tabulate}
 use Rattle.lists.proofs.Order.{T-true, true-T}
-use Rattle.lists.proofs.Members.{map-append}
 
 -- ---- tabulate
 

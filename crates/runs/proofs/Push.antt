@@ -9,57 +9,34 @@ use native.Mathlib.Decide.{decLt}
 use borrow.Author.Tests.{le-leb, lt-leb}
 use lib.Dec.{T, leb, leb→le, le→leb}
 use lib.IntN.{ℤ, pos}
-use lib.Signed.{leZ, leZ-yes, _≤ℤ_, _<ℤ_}
-use lib.ListN.{length, set, length-set}
+use lib.Signed.{leZ, _≤ℤ_, _<ℤ_}
+use lib.ListN.{length, length-set}
 use lib.Seq.{getD-set-same, getD-set-other}
 use Rattle.lists.proofs.Select.{map-tabulate}
 use Rattle.lists.specs.Prelude.{tabulate, lastBelow, select}
 use Rattle.lists.proofs.Lists.{and-split, and-join, tabulate-ext, lastBelow-le, lastBelow-passes, lastBelow-none, lastBelow-is, lastBelow-zero, lastBelow-ext}
-use Rattle.lists.proofs.Order.{≤ℤ-trans, ≤ℤ-total, <ℤ-≤ℤ}
-use Rattle.cartesian.specs.Distances.{seek, gap, distanceAt, cut}
+use Rattle.lists.proofs.Order.{≤ℤ-total, <ℤ-≤ℤ, le-trans′}
+use Rattle.cartesian.specs.Cartesian.{seek, gap, distanceAt, cut}
 use Rattle.answers.specs.declared.SearchState.{SearchState}
-use Rattle.model.specs.State.{slot, placeAt, valueAt, aged, kept, back, distanceOf, pushed}
+use Rattle.model.specs.Search.{slot, placeAt, valueAt, aged, kept, back, distanceOf, pushed}
 use Rattle.runs.specs.ReferenceRun.{isOpen, openPlaces}
 use Rattle.runs.proofs.MoreMinima.{select-front}
 use Rattle.runs.proofs.Minima.{Minima, valueOf, open-from, valueOf-before, valueOf-last, length-more, young, openPlaces-more, isListed}
-use Rattle.runs.proofs.Ring.{slot-lt, slots-differ, Aged, minima-aged, aged-selected, aged-rise, aged-count}
-
-leZ-trans : (a b c : ℤ) → T (leZ a b) → T (leZ b c) → T (leZ a c)
-leZ-trans a b c h k = ≤ℤ-trans {a = a} {b = b} {c = c} (leZ-yes h) (leZ-yes k) .le
+use Rattle.runs.proofs.Ring.{Aged, minima-aged, aged-selected, aged-rise, aged-count}
+use Rattle.model.proofs.Ring.{put, slot-lt, slots-differ, kept-le, pushed-put}
 
 -- ---- the push
-
--- the new value on top of those that it does not close
-abbrev put : SearchState → ℤ → ℕ → SearchState
-put a x node =
-    let n = kept a x in
-    record {
-      taken = a .taken + 1;
-      node = node;
-      minima = n + 1;
-      first = a .first;
-      places = set (a .places) (slot a n) (a .taken);
-      values = set (a .values) (slot a n) x;
-    }
-
-pushed-put : (st : SearchState) (x : ℤ) (node : ℕ) → pushed st x node ≡ put (aged st) x node
-unfolding pushed aged
-pushed-put st x node = refl
 
 -- `kept` by the values of the text
 kept-text : (text : List ℤ) (a : SearchState) (x : ℤ) → Aged text a → kept a x ≡ lastBelow (λ i. leZ (valueOf text (placeAt a i)) x) (a .minima)
 unfolding kept
 kept-text text a x g = lastBelow-ext (λ i. leZ (valueAt a i) x) (λ i. leZ (valueOf text (placeAt a i)) x) (a .minima) (λ i h. ap (λ v. leZ v x) (g .value i h))
 
-kept-le : (a : SearchState) (x : ℤ) → kept a x ≤ a .minima
-unfolding kept
-kept-le a x = lastBelow-le (λ i. leZ (valueAt a i) x) (a .minima)
-
 -- those that stay are a front
 kept-places : (text : List ℤ) (a : SearchState) (x : ℤ) → Aged text a → tabulate (kept a x) (placeAt a) ≡ select (λ i. leZ (valueOf text i) x) (select (young (length text)) (openPlaces text))
 kept-places text a x g =
     ap (λ (k : ℕ). tabulate k (placeAt a)) (kept-text text a x g)
-    ∙ sym (select-front (λ i. leZ (valueOf text i) x) (a .minima) (placeAt a) (λ i j h k t. leZ-trans (valueOf text (placeAt a i)) (valueOf text (placeAt a j)) x (aged-rise text a g i j h k) t))
+    ∙ sym (select-front (λ i. leZ (valueOf text i) x) (a .minima) (placeAt a) (λ i j h k t. le-trans′ (valueOf text (placeAt a i)) (valueOf text (placeAt a j)) x (aged-rise text a g i j h k) t))
     ∙ ap (select (λ i. leZ (valueOf text i) x)) (g .places)
 
 kept-few : (text : List ℤ) (a : SearchState) (x : ℤ) → Aged text a → kept a x < 256
@@ -129,7 +106,7 @@ sought-open text x q e = open-from text q (λ j h k. later j h k (≤ℤ-total (
   where
     later : (j : ℕ) → q < j → j < length text → (valueOf text j ≤ℤ x) ⊎ (x <ℤ valueOf text j) → T (leZ (valueOf text q) (valueOf text j))
     later j h k (inl l) = absurd (lastBelow-none (λ j. leZ (valueOf text j) x) (length text) j (omega arith) k (l .le))
-    later j h k (inr l) = leZ-trans (valueOf text q) x (valueOf text j) (lastBelow-passes (λ j. leZ (valueOf text j) x) (length text) q e) (<ℤ-≤ℤ l .le)
+    later j h k (inr l) = le-trans′ (valueOf text q) x (valueOf text j) (lastBelow-passes (λ j. leZ (valueOf text j) x) (length text) q e) (<ℤ-≤ℤ l .le)
 
 -- the distance that the young open minima tell
 aged-distance : (text : List ℤ) (a : SearchState) (x : ℤ) → Aged text a → back a (kept a x) ≡ cut 255 (gap (length text) (seek text x (length text)))

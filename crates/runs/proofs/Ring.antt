@@ -1,10 +1,9 @@
 -- The ring of open minima once the too old one is dropped. At most one is too old, the oldest, as all are among the last 256 and their places rise; so at most 255 are left, and the slot after theirs is none of theirs.
 use mathlib.Core.Path.{_≡_, refl, sym, _∙_, ap, subst}
-use mathlib.Core.Bool.{Bool, true, false, cond, _&&_}
+use mathlib.Core.Bool.{Bool, true, false, _&&_}
 use mathlib.Core.List.{List}
-use Prim.Native.Nat.{ℕ, zero, suc, _+_, _-_, _%_, _≤_, _<_}
+use Prim.Native.Nat.{ℕ, zero, suc, _+_, _-_, _≤_, _<_}
 use native.Mathlib.Omega.{arith}
-use native.Mathlib.Nat.{mod-add-mod}
 use native.Mathlib.Decide.{decLt}
 use borrow.Author.Tests.{lt-leb}
 use lib.Dec.{T, leb, ltb, leb→le, le→leb, ltb→lt, lt→ltb}
@@ -16,44 +15,15 @@ use Rattle.lists.specs.Prelude.{tabulate, select}
 use Rattle.lists.proofs.Lists.{and-split, and-join, tabulate-ext}
 use Rattle.lists.proofs.Order.{T-true}
 use Rattle.answers.specs.declared.SearchState.{SearchState}
-use Rattle.model.specs.State.{slot, placeAt, valueAt, aged}
+use Rattle.model.specs.Search.{placeAt, valueAt, aged}
 use Rattle.runs.specs.ReferenceRun.{isOpen, openPlaces}
 use Rattle.runs.proofs.MoreMinima.{select-all, Selected, selected, rising-count}
 use Rattle.runs.proofs.Minima.{Minima, valueOf, open-later, young, isListed, minima-selected, minima-value}
+use Rattle.model.proofs.Ring.{oldestIsOld, without, slot-lt, aged-without, slot-next}
 
 -- ---- slots
 
-pub slot-lt : (st : SearchState) (i : ℕ) → slot st i < 256
-slot-lt st i = omega arith
-
--- 256 slots in a row are different
-pub slots-differ : (st : SearchState) (i n : ℕ) → i < n → n < 256 → slot st i ≡ slot st n → ⊥
-slots-differ st i n h k e = omega arith
-
 -- ---- what is too old
-
--- is the oldest open minimum not among the last 256 any more once the next value is taken
-abbrev isOld : SearchState → Bool
-isOld st = ltb 0 (st .minima) && leb (placeAt st 0 + 256) (st .taken)
-
--- without the oldest, or as it is
-abbrev without : SearchState → Bool → SearchState
-without st old = record {
-  taken = st .taken;
-  node = st .node;
-  minima = cond old (st .minima - 1) (st .minima);
-  first = cond old ((st .first + 1) % 256) (st .first);
-  places = st .places;
-  values = st .values;
-}
-
-aged-without : (st : SearchState) → aged st ≡ without st (isOld st)
-unfolding aged
-aged-without st = refl
-
--- without the oldest, the slots are the next ones
-slot-next : (st : SearchState) (i : ℕ) → slot (without st true) i ≡ slot st (suc i)
-slot-next st i = mod-add-mod (st .first + 1) 256 i ∙ ap (λ (k : ℕ). k % 256) (omega arith)
 
 -- the open minima of the state are those of the text that are young
 pub record Aged (text : List ℤ) (a : SearchState) : Type 0 where
@@ -107,11 +77,11 @@ aged-young text st m f =
     later (suc i) l = omega (arith, f (omega arith), minima-selected text st m .rises 0 (suc i) (omega arith) l)
 
 pub minima-aged : (text : List ℤ) (st : SearchState) → Minima text st → Aged text (aged st)
-minima-aged text st m = rw aged-without (go (isOld st) refl)
+minima-aged text st m = rw aged-without (go (oldestIsOld st) refl)
   where
-    go : (b : Bool) → isOld st ≡ b → Aged text (without st b)
+    go : (b : Bool) → oldestIsOld st ≡ b → Aged text (without st b)
     go true e =
-        let p = and-split (ltb 0 (st .minima)) (leb (placeAt st 0 + 256) (st .taken)) (T-true (isOld st) e) in
+        let p = and-split (ltb 0 (st .minima)) (leb (placeAt st 0 + 256) (st .taken)) (T-true (oldestIsOld st) e) in
         aged-old text st m (st .minima - 1) (omega (arith, ltb→lt 0 (st .minima) (p .0))) (omega (arith, leb→le (placeAt st 0 + 256) (st .taken) (p .1), m .count))
     go false e = aged-young text st m (λ k. oldest k (decLt (length text) (placeAt st 0 + 256)))
       where

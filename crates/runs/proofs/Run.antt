@@ -7,8 +7,8 @@ use mathlib.Core.List.{List, [], _∷_, _++_, flatten, append-assoc, append-nil}
 use Prim.Native.Nat.{ℕ, zero, suc, _+_, _*_, _-_, _≤_, _<_}
 use native.Mathlib.Omega.{arith}
 use borrow.Author.Tests.{ne-eqb, le-ltb, ltb-false}
-use lib.Dec.{T, eqb, ltb}
-use lib.IntN.{ℤ, pos}
+use lib.Dec.{T, ltb}
+use lib.IntN.{ℤ}
 use lib.ListN.{length, take, drop}
 use lib.Seq.{take-at}
 use Rattle.lists.specs.Prelude.{begins, tabulate}
@@ -17,31 +17,20 @@ use Rattle.answers.specs.declared.SearchState.{SearchState}
 use Rattle.answers.specs.NewSearch.{newSearch}
 use Rattle.pattern_set.specs.PatternSet.{PatternSet, goodSet, setWords, readSet}
 use Rattle.pattern_set.proofs.ReadSet.{readSet-iff, readSet-words}
-use Rattle.matching.specs.Hits.{hits, hitWords}
+use Rattle.matching.specs.Matching.{hits, hitWords}
 use Rattle.model.specs.Refusals.{firstMet, unless, told, after}
-use Rattle.model.specs.SetEntries.{isBroken, setOf, isUnsearchable}
-use Rattle.model.specs.AutomatonWords.{automatonWords}
-use Rattle.model.specs.State.{goodState}
-use Rattle.model.specs.Step.{Called, call}
-use Rattle.model.specs.SearchEntries.{Counts, streamConditions, streamCall, candidates, filterEntry}
+use Rattle.model.specs.Entries.{setOf, Counts, streamConditions, streamCall, candidates, filterEntry}
+use Rattle.model.specs.Automaton.{automatonWords}
+use Rattle.model.specs.Search.{goodState, Called, call}
 use Rattle.runs.specs.ReferenceRun.{Call, Seen, read, isLent, referenceCall, reference, taken, longestHead}
 use Rattle.model.proofs.Refusals.{leave, first-unmet}
-use Rattle.runs.specs.RunTheorem.{conditionsOf, observeCall, nextState, observe, lastState, Admitted, toldOr0, written, attemptsOf, NeverRefused, Run, RunTheorem}
+use Rattle.runs.specs.Demands.{conditionsOf, observeCall, nextState, observe, lastState, Admitted, toldOr0, written, attemptsOf, NeverRefused, Run, RunTheorem}
 use Rattle.runs.proofs.LongestHead.{longestHead-le}
 use Rattle.runs.proofs.Step.{Represents, node-reached, new-represents, represents-good}
 use Rattle.runs.proofs.Call.{Agrees, call-reads}
+use Rattle.matching.proofs.HitWords.{length-hitWords, hitWords-append}
 
 -- ---- hit words
-
-pub length-hitWords : (hs : List (ℕ × ℕ)) → length (hitWords hs) ≡ 2 * length hs
-unfolding hitWords
-length-hitWords [] = refl
-length-hitWords (h ∷ hs) = omega (arith, length-hitWords hs)
-
-pub hitWords-append : (hs gs : List (ℕ × ℕ)) → hitWords (hs ++ gs) ≡ hitWords hs ++ hitWords gs
-unfolding hitWords
-hitWords-append [] gs = refl
-hitWords-append (h ∷ hs) gs = ap (λ (l : List ℕ). h .0 ∷ h .1 ∷ l) (hitWords-append hs gs)
 
 no-hits : (ps : PatternSet) → hitWords (hits ps []) ≡ []
 unfolding hits hitWords tabulate flatten

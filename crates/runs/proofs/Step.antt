@@ -12,28 +12,25 @@ use lib.ListN.{length, length-append}
 use lib.Seq.{drop-nil}
 use Rattle.lists.specs.Prelude.{lastOf, tabulate}
 use Rattle.lists.proofs.Lists.{and-join, length-lastOf}
-use Rattle.lists.proofs.Order.{true-T, T-true}
+use Rattle.lists.proofs.Order.{T-true}
 use Rattle.answers.specs.declared.SearchState.{SearchState}
 use Rattle.answers.specs.NewSearch.{newSearch}
-use Rattle.cartesian.specs.Distances.{distanceAt, distances, cut}
+use Rattle.cartesian.specs.Cartesian.{distanceAt, distances, cut, treeOfWithin, treeOf}
 use Rattle.cartesian.proofs.Seek.{length-distances}
-use Rattle.cartesian.specs.TreeOf.{treeOfWithin, treeOf}
-use Rattle.realization.specs.LeastRealization.{leftTurns, leastRealization}
+use Rattle.realization.specs.Realization.{leftTurns, leastRealization}
 use Rattle.pattern_set.specs.PatternSet.{PatternSet, goodSet}
-use Rattle.matching.specs.Hits.{lastHits}
-use Rattle.matching.specs.Heads.{isHead, failure, headTree}
+use Rattle.matching.specs.Matching.{lastHits, isHead, failure}
 use Rattle.matching.proofs.Heads.{headTree-isHead}
-use Rattle.model.specs.Nodes.{nodes, headOf, nodeOf}
-use Rattle.model.specs.State.{goodMinima, goodState, distanceOf, pushed}
-use Rattle.model.specs.Step.{extended, advanceWithin, advance, listed, Stepped, step}
-use Rattle.runs.specs.ReferenceRun.{attempts, longestExtended, longestHead}
+use Rattle.model.specs.Automaton.{nodes, headOf, nodeOf}
+use Rattle.model.specs.Search.{goodMinima, goodState, distanceOf, pushed, extended, advanceWithin, advance, listed, step}
+use Rattle.runs.specs.ReferenceRun.{attempts, longestHead}
 use Rattle.model.proofs.Nodes.{head-node, head-length, node-root, failure-shorter}
-use Rattle.runs.proofs.Suffixes.{good-realizable}
 use Rattle.runs.proofs.LongestHead.{longestHead-le, longestHead-head, longestHead-step}
 use Rattle.runs.proofs.Advance.{advance-is}
 use Rattle.runs.proofs.Listed.{listed-is}
 use Rattle.runs.proofs.Minima.{Minima, minima-new, minima-good}
 use Rattle.runs.proofs.Push.{minima-pushed, distance-cut}
+use Rattle.pattern_set.proofs.Good.{good-realizable}
 
 -- the distances of the longest suffix of the text that has the tree of some head
 abbrev pub reached : PatternSet → List ℤ → List ℕ

@@ -1,40 +1,24 @@
 -- The suffixes of a text with one more value: which of them have the tree of some head, and their distances, of which only the last one is new.
 use mathlib.Core.Path.{_≡_, refl, sym, _∙_, ap, ap₂, subst}
-use mathlib.Core.Bool.{_&&_}
-use mathlib.Core.List.{List, [], _∷_, _++_, flatten, List·Memᴰ, List·Memᴰ·head}
+use mathlib.Core.List.{List, [], _∷_, _++_, List·Memᴰ·head}
 use Prim.Native.Nat.{ℕ, suc, _+_, _-_, _≤_, _<_}
 use native.Mathlib.Omega.{arith}
-use lib.Dec.{T, leb, leb→le}
+use lib.Dec.{T}
 use lib.IntN.{ℤ}
 use lib.ListN.{length, take}
 use lib.Seq.{take-suc, take-all, take-append-seam, drop-append-le}
-use Rattle.lists.specs.Prelude.{any, all, lastOf}
-use Rattle.lists.proofs.Lists.{and-split, all-mem, mem-all, length-lastOf, lastOf-zero, length-snoc}
-use Rattle.cartesian.specs.Tree.{leftmostFrom, leftmost, treeWithin, tree, sameTree}
-use Rattle.cartesian.specs.Distances.{distanceAt, distances, cut}
-use Rattle.cartesian.specs.TreeOf.{treeOfWithin, treeOf}
+use Rattle.lists.specs.Prelude.{any, lastOf}
+use Rattle.lists.proofs.Lists.{length-lastOf, lastOf-zero, length-snoc}
+use Rattle.cartesian.specs.Cartesian.{leftmostFrom, leftmost, treeWithin, tree, sameTree, distanceAt, distances, cut, treeOfWithin, treeOf}
 use Rattle.cartesian.proofs.Seek.{length-distances, getD-distances, distanceAt-drop}
 use Rattle.cartesian.proofs.ByList.{distances-take}
-use Rattle.realization.specs.Realizable.{realizable}
-use Rattle.pattern_set.specs.PatternSet.{PatternSet, goodPattern, goodSet}
-use Rattle.matching.specs.Hits.{hasTree}
-use Rattle.matching.specs.Heads.{isHead, headTree}
+use Rattle.pattern_set.specs.PatternSet.{PatternSet, goodSet}
+use Rattle.matching.specs.Matching.{hasTree, isHead, headTree}
 use Rattle.matching.proofs.Heads.{headTree-isHead, head-shorter, empty-headTree}
-use Rattle.model.specs.Step.{extended}
+use Rattle.model.specs.Search.{extended}
+use Rattle.pattern_set.proofs.Good.{good-pattern, good-realizable}
 
 -- ---- the patterns of a good set
-
--- a pattern of a good set has 1 to 256 distances and is realizable
-pub good-pattern : (ps : PatternSet) (p : List ℕ) → T (goodSet ps) → List·Memᴰ p ps → (1 ≤ length p) × (length p ≤ 256) × T (realizable p)
-unfolding goodSet goodPattern
-good-pattern ps p g m =
-    let a = and-split (leb (length ps) 64 && leb (length (flatten ps)) 4096) (all goodPattern ps) g in
-    let b = and-split (leb 1 (length p) && leb (length p) 256) (realizable p) (all-mem goodPattern ps (a .1) p m) in
-    let c = and-split (leb 1 (length p)) (leb (length p) 256) (b .0) in
-    (leb→le 1 (length p) (c .0), leb→le (length p) 256 (c .1), b .1)
-
-pub good-realizable : (ps : PatternSet) → T (goodSet ps) → T (all realizable ps)
-good-realizable ps g = mem-all realizable ps (λ p m. good-pattern ps p g m .2)
 
 -- ---- heads
 

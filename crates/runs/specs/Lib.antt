@@ -1,3 +1,3 @@
 -- The root of the crate's definitions.
 pub mod ReferenceRun
-pub mod RunTheorem
+pub mod Demands

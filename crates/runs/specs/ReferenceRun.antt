@@ -1,12 +1,11 @@
 -- The reference run of a list of stream search calls, by trees. Document 01: A run of ladder searches; Run book; Trials.
-use Rattle.lists.specs.Prelude.{Bool, cond, not, _&&_, _||_, Option, none, some, List, [], _∷_, _++_, map, tabulate, all, select, begins, lastBelow, lastOf, ℕ, suc, pred, _+_, _*_, leb, ltb, ℤ, pos, leZ, length, getD}
+use Rattle.lists.specs.Prelude.{Bool, cond, not, _&&_, _||_, Option, none, some, List, [], _∷_, _++_, map, ℕ, suc, pred, _+_, _*_, leb, ltb, ℤ, pos, leZ, length, getD, tabulate, lastBelow, lastOf, all, select, begins}
 use Rattle.pattern_set.specs.PatternSet.{PatternSet, setWords}
-use Rattle.matching.specs.Hits.{lastHits}
-use Rattle.matching.specs.Heads.{headTree}
+use Rattle.matching.specs.Matching.{lastHits, headTree}
 use Rattle.model.specs.Refusals.{firstMet, unless, told, after}
-use Rattle.model.specs.AutomatonWords.{automatonWords}
-use Rattle.model.specs.Step.{Stepped, Called, feed}
-use Rattle.model.specs.SearchEntries.{Counts, calledEntry}
+use Rattle.model.specs.Automaton.{automatonWords}
+use Rattle.model.specs.Search.{Stepped, Called, feed}
+use Rattle.model.specs.Entries.{Counts, calledEntry}
 
 -- what a caller lends
 pub record Call : Type 0 where

@@ -1,57 +1,33 @@
 -- What is known of a set array that is good: it begins with the words of its patterns, so that each pattern lies between two of the offsets, and each pattern is good.
 use mathlib.Core.Path.{_≡_, refl, sym, _∙_, ap, ap₂}
-use mathlib.Core.Bool.{false, _&&_}
-use mathlib.Core.List.{List, [], _++_, flatten, append-assoc}
+use mathlib.Core.Bool.{false}
+use mathlib.Core.List.{List, [], _++_, flatten}
 use mathlib.Core.Option.{Option, none, some}
 use Prim.Native.Nat.{ℕ, suc, _+_, _-_, _≤_, _<_}
 use native.Mathlib.Omega.{arith}
 use native.Mathlib.Decide.{decLt}
 use native.Mathlib.Numerals.{add-one}
-use lib.Dec.{T, leb, leb→le}
+use lib.Dec.{T}
 use lib.ListN.{length, getD, take, drop, length-append, List·getD-eq-default}
 use lib.Seq.{getD-take, getD-drop}
 use Rattle.lists.proofs.Select.{getD-mem}
 use Rattle.lists.proofs.Members.{length-flatten-suc, length-flatten-take}
-use Rattle.lists.specs.Prelude.{all, begins}
-use Rattle.lists.proofs.Lists.{and-split, all-mem, begins-iff, getD-tabulate}
-use Rattle.cartesian.specs.Distances.{distances}
+use Rattle.lists.specs.Prelude.{begins}
+use Rattle.lists.proofs.Lists.{all-mem, begins-iff, getD-tabulate}
+use Rattle.cartesian.specs.Cartesian.{distances}
 use Rattle.cartesian.proofs.Seek.{getD-distances, distance-le}
-use Rattle.realization.specs.Realizable.{realizable}
-use Rattle.realization.specs.LeastRealization.{leastRealization}
+use Rattle.realization.specs.Realization.{realizable, leastRealization}
 use Rattle.realization.proofs.LeastRealization.{least-distances, length-least}
-use Rattle.pattern_set.specs.PatternSet.{PatternSet, offsets, setWords, goodPattern, goodSet, patternIn, patternsIn, readSet}
-use Rattle.pattern_set.proofs.Words.{length-setWords, getD-offsets, patternsIn-words}
+use Rattle.pattern_set.specs.PatternSet.{PatternSet, setWords, goodPattern, goodSet, patternIn, patternsIn, readSet}
+use Rattle.pattern_set.proofs.Words.{length-setWords, patternsIn-words, words-count, words-offset}
 use Rattle.pattern_set.proofs.ReadSet.{readSet-iff}
-use Rattle.model.specs.SetEntries.{isBroken, setOf}
+use Rattle.model.specs.Entries.{isBroken, setOf}
 use Rattle.set_access.specs.Patterns.{patternsOf, Good}
+use Rattle.pattern_set.proofs.Good.{goodPattern-parts, goodSet-parts}
 
 -- ---- the first words of a set
 
-words-count : (ps : PatternSet) (rest : List ℕ) → getD (setWords ps ++ rest) 0 0 ≡ length ps
-unfolding setWords
-words-count ps rest = refl
-
-words-offset : (ps : PatternSet) (rest : List ℕ) (j : ℕ) → j ≤ length ps → getD (setWords ps ++ rest) (2 + j) 0 ≡ length (flatten (take j ps))
-unfolding setWords
-words-offset ps rest j h =
-    let two : 2 + j ≡ suc (suc j) = omega arith in
-    rw (two, append-assoc (offsets 0 ps) (flatten ps) rest) (getD-offsets 0 ps (flatten ps ++ rest) j h ∙ (omega arith))
-
 -- ---- what a good set is
-
-goodSet-parts : (ps : PatternSet) → T (goodSet ps) → (length ps ≤ 64) × (length (flatten ps) ≤ 4096) × T (all goodPattern ps)
-unfolding goodSet
-goodSet-parts ps t =
-    let a = and-split (leb (length ps) 64 && leb (length (flatten ps)) 4096) (all goodPattern ps) t in
-    let b = and-split (leb (length ps) 64) (leb (length (flatten ps)) 4096) (a .0) in
-    (leb→le (length ps) 64 (b .0), leb→le (length (flatten ps)) 4096 (b .1), a .1)
-
-goodPattern-parts : (p : List ℕ) → T (goodPattern p) → (1 ≤ length p) × (length p ≤ 256) × T (realizable p)
-unfolding goodPattern
-goodPattern-parts p t =
-    let a = and-split (leb 1 (length p) && leb (length p) 256) (realizable p) t in
-    let b = and-split (leb 1 (length p)) (leb (length p) 256) (a .0) in
-    (leb→le 1 (length p) (b .0), leb→le (length p) 256 (b .1), a .1)
 
 -- a distance of a realizable list is at most its place; behind the list `getD` gives 0
 pub realizable-le-place : (ds : List ℕ) → T (realizable ds) → (i : ℕ) → getD ds i 0 ≤ i

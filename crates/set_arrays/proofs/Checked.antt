@@ -13,7 +13,7 @@ use Rattle.answers.specs.Told.{number}
 use Rattle.pattern_set.specs.PatternSet.{PatternSet, readSet}
 use Rattle.model.specs.Refusals.{firstMet, told}
 use Rattle.model.proofs.Refusals.{tellTwo}
-use Rattle.model.specs.SetEntries.{isBroken, setOf, isUnsearchable, checkEntry}
+use Rattle.model.specs.Entries.{isBroken, setOf, isUnsearchable, checkEntry}
 
 -- every refusal has a number
 number-positive : (r : Refusal) → 0 < number r

@@ -8,7 +8,7 @@ use borrow.Author.Tests.{eq-eqb, ne-eqb, le-leb, lt-leb, lt-ltb, le-ltb}
 use lib.Dec.{leb, ltb}
 use lib.IntN.{ℤ}
 use lib.ListN.{length, getD, drop, length-append}
-use Rattle.cartesian.specs.Distances.{distances}
+use Rattle.cartesian.specs.Cartesian.{distances}
 use Rattle.cartesian.proofs.Seek.{length-distances}
 use Rattle.lists.proofs.Lists.{begins-iff}
 use Rattle.pattern_set.specs.PatternSet.{PatternSet, setWords, patternsIn, readSet}
@@ -16,7 +16,7 @@ use Rattle.pattern_set.proofs.ReadSet.{readSet-iff}
 use Rattle.pattern_set.proofs.Words.{length-setWords}
 use Rattle.model.specs.Refusals.{firstMet, told, after}
 use Rattle.model.proofs.Refusals.{tellTwo, leave}
-use Rattle.model.specs.SetEntries.{setOf, checkEntry, addEntry}
+use Rattle.model.specs.Entries.{setOf, checkEntry, addEntry}
 use Rattle.set_arrays.specs.Rules.{isSet}
 use Rattle.set_arrays.specs.Moved.{appended}
 use Rattle.set_arrays.proofs.SetRules.{follows-reads, length-patterns, length-distances as distances-in, set-follows, set-broken}

@@ -9,8 +9,8 @@ use lib.Dec.{leb, ltb, leb→le, ltb→lt}
 use lib.ListN.{length, getD, take, drop, set, length-drop, drop-of-length-le}
 use lib.Seq.{take-all, drop-drop}
 use Rattle.lists.proofs.Order.{T-true, true-T}
-use Rattle.lists.proofs.Lists.{and-split}
-use Rattle.realization.specs.Realizable.{realizable}
+use Rattle.lists.proofs.Lists.{and-split, and-false}
+use Rattle.realization.specs.Realization.{realizable}
 use Rattle.pattern_set.specs.PatternSet.{offsets, setWords, patternIn}
 use Rattle.set_arrays.specs.Rules.{isSet, sizesFit, rises, offsetsRise, listsRealizable}
 use Rattle.set_arrays.specs.Moved.{withRoom, appended}
@@ -18,10 +18,6 @@ use Rattle.set_arrays.proofs.Each.{each-passes, each-all}
 use Rattle.set_arrays.proofs.SetRules.{Rising, offset-le, is-set, no-set}
 
 -- ---- sizes_fit
-
-and-false : (b : Bool) → (b && false) ≡ false
-and-false true = refl
-and-false false = refl
 
 pub sizes-short : (ws : List ℕ) → length ws < 3 → false ≡ sizesFit ws
 sizes-short ws h =

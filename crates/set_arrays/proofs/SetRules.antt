@@ -1,23 +1,24 @@
 -- THE LAW OF THE RULES: an array begins with a good set's words exactly if its words follow the rules. One way, the lists between the offsets, put end to end, are the array's distances, and their lengths add up to the offsets; the other way, the offsets of a good set are the lengths of its first patterns.
 use mathlib.Core.Path.{_≡_, refl, sym, _∙_, ap, ap₂, subst}
-use mathlib.Core.Bool.{Bool, true, false, _&&_}
+use mathlib.Core.Bool.{true, false, _&&_}
 use mathlib.Core.List.{List, [], _∷_, _++_, flatten, append-assoc, append-nil}
 use mathlib.Core.Option.{Option, none, some}
 use Prim.Native.Nat.{ℕ, zero, suc, _+_, _-_, _≤_, _<_}
 use native.Mathlib.Omega.{arith}
 use native.Mathlib.Numerals.{add-one}
-use lib.Dec.{T, leb, leb→le, le→leb}
+use lib.Dec.{T, leb, le→leb}
 use lib.ListN.{length, getD, take, drop, length-append, length-drop, take-append-drop}
-use lib.Seq.{take-suc, take-add, drop-drop, length-take-le, getD-take, getD-drop, ext-getD, take-length}
+use lib.Seq.{take-add, drop-drop, length-take-le, getD-take, getD-drop, ext-getD, take-length}
 use Rattle.lists.specs.Prelude.{tabulate, all}
-use Rattle.lists.proofs.Lists.{and-split, and-join, begins-iff, length-tabulate, getD-tabulate, take-tabulate}
-use Rattle.lists.proofs.Members.{flatten-append, flatten-tabulate}
-use Rattle.realization.specs.Realizable.{realizable}
+use Rattle.lists.proofs.Lists.{and-join, begins-iff, length-tabulate, take-tabulate}
+use Rattle.lists.proofs.Members.{flatten-tabulate, length-flatten-suc}
+use Rattle.realization.specs.Realization.{realizable}
 use Rattle.pattern_set.specs.PatternSet.{PatternSet, offsets, setWords, goodPattern, goodSet, patternIn, patternsIn, readSet}
-use Rattle.pattern_set.proofs.Words.{length-offsets, length-setWords, getD-offsets, patternsIn-words}
+use Rattle.pattern_set.proofs.Words.{length-offsets, length-setWords, getD-offsets, words-count, words-offset, patternIn-words}
 use Rattle.pattern_set.proofs.ReadSet.{readSet-iff}
 use Rattle.set_arrays.specs.Rules.{isSet}
-use Rattle.set_arrays.proofs.More.{all-tabulate, all-getD, flatten-nil, flatten-one, flatten-none}
+use Rattle.set_arrays.proofs.More.{all-tabulate, all-getD, flatten-nil, flatten-none}
+use Rattle.pattern_set.proofs.Good.{goodPattern-parts, goodSet-parts}
 
 -- from each of the first k offsets to the next it is 1 to 256
 abbrev pub Rising : List ℕ → ℕ → Type 0
@@ -154,53 +155,16 @@ module _ (ws : List ℕ) (f : Follows ws) where
 
 -- ---- the other way
 
-goodPattern-has : (p : List ℕ) → T (goodPattern p) → (1 ≤ length p) × (length p ≤ 256) × T (realizable p)
-unfolding goodPattern
-goodPattern-has p t =
-    let r = and-split (leb 1 (length p) && leb (length p) 256) (realizable p) t in
-    let s = and-split (leb 1 (length p)) (leb (length p) 256) (r .0) in
-    (leb→le 1 (length p) (s .0), leb→le (length p) 256 (s .1), r .1)
-
-goodSet-has : (ps : PatternSet) → T (goodSet ps) → (length ps ≤ 64) × (length (flatten ps) ≤ 4096) × T (all goodPattern ps)
-unfolding goodSet
-goodSet-has ps t =
-    let r = and-split (leb (length ps) 64 && leb (length (flatten ps)) 4096) (all goodPattern ps) t in
-    let s = and-split (leb (length ps) 64) (leb (length (flatten ps)) 4096) (r .0) in
-    (leb→le (length ps) 64 (s .0), leb→le (length (flatten ps)) 4096 (s .1), r .1)
-
--- what the first words of a set are
-pub words-zero : (ps : PatternSet) (rest : List ℕ) → getD (setWords ps ++ rest) 0 0 ≡ length ps
-unfolding setWords
-words-zero ps rest = refl
-
 pub words-one : (ps : PatternSet) (rest : List ℕ) → getD (setWords ps ++ rest) 1 0 ≡ length (flatten ps)
 unfolding setWords
 words-one ps rest = refl
-
-pub words-offset : (ps : PatternSet) (rest : List ℕ) (j : ℕ) → j ≤ length ps → getD (setWords ps ++ rest) (2 + j) 0 ≡ length (flatten (take j ps))
-unfolding setWords
-words-offset ps rest j h =
-    let two : 2 + j ≡ suc (suc j) = omega arith in
-    rw (two, append-assoc (offsets 0 ps) (flatten ps) rest) (getD-offsets 0 ps (flatten ps ++ rest) j h ∙ (omega arith))
-
-words-list : (ps : PatternSet) (rest : List ℕ) (j : ℕ) → j < length ps → patternIn (setWords ps ++ rest) j ≡ getD ps j []
-words-list ps rest j h =
-    let ws = setWords ps ++ rest in
-    sym (getD-tabulate (getD ws 0 0) (patternIn ws) [] j (omega (arith, words-zero ps rest)))
-    ∙ ap (λ (z : PatternSet). getD z j []) (patternsIn-words ps rest)
-
-length-flatten-suc : (ps : PatternSet) (j : ℕ) → j < length ps → length (flatten (take (suc j) ps)) ≡ length (flatten (take j ps)) + length (getD ps j [])
-length-flatten-suc ps j h =
-    ap (λ (z : PatternSet). length (flatten z)) (take-suc ps j [] h)
-    ∙ ap length (flatten-append (take j ps) (getD ps j [] ∷ []) ∙ ap (λ (l : List ℕ). flatten (take j ps) ++ l) (flatten-one (getD ps j [])))
-    ∙ length-append (flatten (take j ps)) (getD ps j [])
 
 module _ (ps : PatternSet) (rest : List ℕ) (g : T (goodSet ps)) where
   abbrev words : List ℕ
   words = setWords ps ++ rest
 
   one-good : (j : ℕ) → j < length ps → (1 ≤ length (getD ps j [])) × (length (getD ps j []) ≤ 256) × T (realizable (getD ps j []))
-  one-good j h = goodPattern-has (getD ps j []) (all-getD goodPattern ps [] j (goodSet-has ps g .2) h)
+  one-good j h = goodPattern-parts (getD ps j []) (all-getD goodPattern ps [] j (goodSet-parts ps g .2) h)
 
   words-rise : Rising words (length ps)
   words-rise j h =
@@ -213,8 +177,8 @@ module _ (ps : PatternSet) (rest : List ℕ) (g : T (goodSet ps)) where
 
   words-follow : Follows words
   words-follow =
-      let b = goodSet-has ps g in
-      let k = words-zero ps rest in
+      let b = goodSet-parts ps g in
+      let k = words-count ps rest in
       let n = words-one ps rest in
       record {
         few = omega (arith, k, b .0);
@@ -223,7 +187,7 @@ module _ (ps : PatternSet) (rest : List ℕ) (g : T (goodSet ps)) where
         first = words-offset ps rest 0 (omega arith) ∙ ap length flatten-nil;
         rise = λ j h. words-rise j (omega (arith, k));
         last = ap (λ (a : ℕ). getD words (2 + a) 0) k ∙ words-offset ps rest (length ps) (omega arith) ∙ ap (λ (z : PatternSet). length (flatten z)) (take-length ps) ∙ sym n;
-        lists = λ j h. rw (words-list ps rest j (omega (arith, k))) (one-good j (omega (arith, k)) .2);
+        lists = λ j h. rw (patternIn-words ps rest j (omega (arith, k))) (one-good j (omega (arith, k)) .2);
       }
 
 pub reads-follows : (ws : List ℕ) (ps : PatternSet) → readSet ws ≡ some ps → Follows ws

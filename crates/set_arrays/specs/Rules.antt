@@ -4,9 +4,9 @@ use mathlib.Core.List.{List}
 use Prim.Native.Nat.{ℕ, zero, suc, _+_}
 use lib.Dec.{leb, ltb}
 use lib.ListN.{length, getD}
-use Rattle.realization.specs.Realizable.{realizable}
+use Rattle.realization.specs.Realization.{realizable}
 use Rattle.pattern_set.specs.PatternSet.{patternIn, readSet}
-use Rattle.model.specs.SetEntries.{isBroken}
+use Rattle.model.specs.Entries.{isBroken}
 
 -- the array begins with a good set's words
 abbrev pub isSet : List ℕ → Bool

@@ -2,7 +2,7 @@
 ghost use mathlib.Core.Path.{_≡_};
 ghost use Rattle.answers.specs.Told.{toldWritten, toldSize};
 ghost use Rattle.model.specs.Refusals.{told, after};
-ghost use Rattle.model.specs.SetEntries.{emptySetEntry, checkEntry, addEntry};
+ghost use Rattle.model.specs.Entries.{emptySetEntry, checkEntry, addEntry};
 use answers::Refusal;
 use answers::SetSize;
 use answers::Written;

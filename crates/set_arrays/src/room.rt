@@ -2,7 +2,7 @@
 ghost use mathlib.Core.Path.{_≡_};
 ghost use Prim.Native.Nat.{_+_, _≤_, _<_};
 ghost use lib.ListN.{length};
-ghost use Rattle.cartesian.specs.Distances.{distances};
+ghost use Rattle.cartesian.specs.Cartesian.{distances};
 ghost use Rattle.set_arrays.specs.Moved.{movedUp, withRoom, appended};
 
 // Moves the n words from `at` on up by one word, the last one first.

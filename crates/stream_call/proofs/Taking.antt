@@ -1,33 +1,32 @@
 -- THE CALL, value by value: what is done so far and then the call from the present state are the whole call. A step adds its hits, its attempts and its
 -- value; where no value is left or too few words are free, nothing is left to do.
 use mathlib.Core.Path.{_≡_, refl, sym, _∙_, ap, ap₂, subst}
-use mathlib.Core.Bool.{Bool, true, false, cond}
+use mathlib.Core.Bool.{true, cond}
 use mathlib.Core.List.{List, [], _∷_, _++_, append-nil, append-assoc}
-use Prim.Native.Nat.{ℕ, zero, suc, _+_, _*_, _-_, _/_, _≤_, _<_}
+use Prim.Native.Nat.{ℕ, suc, _+_, _*_, _-_, _/_, _%_, _≤_, _<_}
 use native.Mathlib.Omega.{arith}
 use borrow.Author.Tests.{le-leb, lt-leb, lt-ltb, le-ltb}
-use lib.Dec.{T, leb, ltb}
+use lib.Dec.{T, leb}
 use lib.IntN.{ℤ, pos}
 use lib.ListN.{length, getD, take, drop, length-drop, length-map, length-append, drop-of-length-le}
 use lib.Seq.{drop-cons}
 use Rattle.answers.specs.declared.SearchState.{SearchState}
 use Rattle.answers.specs.declared.Counts.{Counts}
 use Rattle.pattern_set.specs.PatternSet.{PatternSet, goodSet}
-use Rattle.matching.specs.Hits.{hitWords}
-use Rattle.model.specs.Nodes.{nodes, headOf, nodeOf}
-use Rattle.model.specs.State.{goodMinima, distanceOf, pushed}
-use Rattle.model.specs.Step.{Stepped, Called, stop, andThen, feed, advance, listed, step, call}
+use Rattle.matching.specs.Matching.{hitWords}
+use Rattle.model.specs.Automaton.{nodes, headOf, nodeOf}
+use Rattle.model.specs.Search.{goodMinima, distanceOf, pushed, Called, stop, andThen, feed, advance, listed, step, call}
 use Rattle.open_minima.specs.declared.Pushed.{Pushed}
-use Rattle.open_minima.specs.Parts.{stateOf, IsPushed}
-use Rattle.open_minima.proofs.Laws.{pushed-good, pushed-places, pushed-values, distance-parts, parts-pushed}
+use Rattle.open_minima.specs.Parts.{stateOf, minimaIn, IsPushed}
+use Rattle.open_minima.proofs.Laws.{minima-counted, pushed-good, pushed-places, pushed-values, distance-parts, parts-pushed}
 use Rattle.stream_step.specs.Reached.{Reached}
 use Rattle.stream_step.specs.PlaceWords.{placeWords}
-use Rattle.stream_step.proofs.More.{paste, length-hitWords, hitWords-append}
+use Rattle.stream_step.proofs.More.{paste}
 use Rattle.stream_step.proofs.Listed.{length-listed}
 use Rattle.stream_step.proofs.Stepping.{reached-within, attempts-few}
 use Rattle.stream_call.specs.declared.Moved.{Moved}
-use Rattle.stream_call.specs.declared.Taken.{Taken}
 use Rattle.stream_call.specs.Taken.{stateFrom, IsStepped, IsTaken}
+use Rattle.matching.proofs.HitWords.{length-hitWords, hitWords-append}
 
 -- i values taken, the hits hs and a attempts made, and then a call
 abbrev later : ℕ → List (ℕ × ℕ) → ℕ → Called SearchState → Called SearchState
@@ -49,6 +48,21 @@ pub record Taking (ps : PatternSet) (st : SearchState) (xs : List ℤ) (lent : L
   pub values : length (here .values) ≡ 256
   pub few : attempts ≤ 257 * i
 
+-- a state with its open minima counted by their slots, as the call enters it
+abbrev pub entered : SearchState → SearchState
+entered st = stateFrom (st .taken) (st .node) (minimaIn (st .taken) (st .first) ((st .first + st .minima) % 256)) (st .first) (st .places) (st .values)
+
+pub entered-is : (st : SearchState) → goodMinima st ≡ true → st .first < 256 → entered st ≡ st
+entered-is st e h = λ i. stateFrom (st .taken) (st .node) (minima-counted st e h i) (st .first) (st .places) (st .values)
+
+-- and as it leaves it
+pub taken-counted : (ps : PatternSet) (st : SearchState) (xs : List ℤ) (before after : List ℕ) (taken node minima m first : ℕ) (places : List ℕ) (values : List ℤ) (counts : Counts) → goodMinima st ≡ true → st .first < 256 → minima ≡ m
+    → IsTaken ps (entered st) xs before after (record { state = stateFrom taken node m first places values; counts = counts })
+    → IsTaken ps st xs before after (record { state = stateFrom taken node minima first places values; counts = counts })
+taken-counted ps st xs before after taken node minima m first places values counts e h q t =
+    subst (λ (k : ℕ). IsTaken ps st xs before after (record { state = stateFrom taken node k first places values; counts = counts })) (sym q)
+    (subst (λ (s : SearchState). IsTaken ps s xs before after (record { state = stateFrom taken node m first places values; counts = counts })) (entered-is st e h) t)
+
 module _ (ps : PatternSet) (g : T (goodSet ps)) (z : 0 < length ps) where
   -- ---- one step
 
@@ -58,7 +72,7 @@ module _ (ps : PatternSet) (g : T (goodSet ps)) (z : 0 < length ps) where
       → Reached ps (st .node) (p .distance) node attempts
       → n ≡ length (listed ps (headOf ps node))
       → after ≡ placeWords (st .taken) (listed ps (headOf ps node)) ++ drop (2 * length (listed ps (headOf ps node))) before
-      → IsStepped ps st x places values before after (record { first = p .first; minima = p .minima; node = node; attempts = attempts; hits = n })
+      → IsStepped ps st x places values before after (record { first = p .first; next = p .next; node = node; attempts = attempts; hits = n })
   unfolding step
   stepped st x places values before after p node attempts n ip r en ew =
       let d : p .distance ≡ distanceOf st x = ip .distance ∙ distance-parts st x in
@@ -69,6 +83,7 @@ module _ (ps : PatternSet) (g : T (goodSet ps)) (z : 0 < length ps) where
       let l : length (listed ps (headOf ps node)) ≡ length (step ps st x .hits) = sym (length-map (listed ps (adv (distanceOf st x) .0)) (λ (j : ℕ). (st .taken, j)) ∙ ap (λ (k : List ℕ). length (listed ps k)) (sym h)) in
       record {
         state = parts-pushed st x node places values p ip ∙ ap (λ (k : ℕ). pushed st x k) m;
+        ring = ip .ring;
         attempts = r .attempts ∙ ap (λ (v : ℕ). adv v .1) d;
         hits = en ∙ l;
         words = ew ∙ ap₂ (λ (k : List ℕ) (i : ℕ). placeWords (st .taken) (listed ps k) ++ drop (2 * i) before) h l;
@@ -135,7 +150,7 @@ module _ (ps : PatternSet) (g : T (goodSet ps)) (z : 0 < length ps) where
       → i < length xs → 2 * length ps ≤ length hits - used
       → (k : ℕ) (y : List ℕ) (places : List ℕ) (values : List ℤ) (r : Moved) → k ≡ length hits - used
       → IsStepped ps here (getD xs i (pos 0)) places values (take k (drop used hits)) y r
-      → Taking ps st xs lent (stateFrom (here .taken + 1) (r .node) (r .minima) (r .first) places values) (i + 1) (used + 2 * r .hits) (attempts + r .attempts) (take used hits ++ (y ++ drop k (drop used hits)))
+      → Taking ps st xs lent (stateFrom (here .taken + 1) (r .node) (minimaIn (here .taken + 1) (r .first) (r .next)) (r .first) places values) (i + 1) (used + 2 * r .hits) (attempts + r .attempts) (take used hits ++ (y ++ drop k (drop used hits)))
   taking-more st xs lent here i used attempts hits t l f k y places values r ek s =
       let x = getD xs i (pos 0) in
       let n = step ps here x in
@@ -159,7 +174,7 @@ module _ (ps : PatternSet) (g : T (goodSet ps)) (z : 0 < length ps) where
       let c = next (n .state) (length lent - used - 2 * length (n .hits)) in
       let shifted : rest (andThen n c) ≡ later (suc i) (D ++ n .hits) (attempts + n .attempts) c =
       λ j. record { state = c .state; ended = c .ended; taken = add-suc i (c .taken) j; hits = sym (append-assoc D (n .hits) (c .hits)) j; attempts = sym (add-assoc attempts (n .attempts) (c .attempts)) j } in
-      let at : stateFrom (here .taken + 1) (r .node) (r .minima) (r .first) places values ≡ n .state = s .state in
+      let at : stateFrom (here .taken + 1) (r .node) (minimaIn (here .taken + 1) (r .first) (r .next)) (r .first) places values ≡ n .state = s .state in
       let back = sym at in
       record {
         done = D ++ n .hits;

@@ -6,8 +6,8 @@ use borrow.Author.Tests.{le-leb, lt-leb, lt-ltb, le-ltb}
 use lib.ListN.{length}
 use Rattle.answers.specs.declared.SearchState.{SearchState}
 use Rattle.pattern_set.specs.PatternSet.{PatternSet}
-use Rattle.model.specs.Nodes.{nodes, headOf}
-use Rattle.model.specs.State.{goodMinima, goodState}
+use Rattle.model.specs.Automaton.{nodes, headOf}
+use Rattle.model.specs.Search.{goodMinima, goodState}
 
 module _ (ps : PatternSet) (st : SearchState) where
   -- its node is none of the automaton's

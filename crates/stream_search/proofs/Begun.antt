@@ -9,8 +9,7 @@ use lib.Seq.{take-append-le}
 use Rattle.lists.specs.Prelude.{begins}
 use Rattle.lists.proofs.Order.{T-true}
 use Rattle.lists.proofs.Lists.{begins-iff}
-use Rattle.model.specs.Nodes.{nodes}
-use Rattle.model.specs.AutomatonWords.{automatonWords}
+use Rattle.model.specs.Automaton.{nodes, automatonWords}
 use Rattle.model.proofs.Lengths.{length-automaton}
 use Rattle.set_access.specs.Patterns.{patternsOf, Good}
 use Rattle.automaton_lookup.specs.Made.{Made}

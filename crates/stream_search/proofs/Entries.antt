@@ -1,10 +1,10 @@
 -- THE ANSWER of a stream search, for each way through the entry: the first refusal that is met, and else what the call does.
-use mathlib.Core.Path.{_≡_, refl, sym, _∙_, ap, ap₂}
+use mathlib.Core.Path.{_≡_, refl, sym, _∙_, ap}
 use mathlib.Core.Bool.{Bool, true, false, cond, not, _&&_}
 use mathlib.Core.List.{List, [], _∷_, _++_}
-use Prim.Native.Nat.{ℕ, zero, suc, _+_, _*_, _≤_, _<_}
+use Prim.Native.Nat.{ℕ, suc, _+_, _*_, _≤_, _<_}
 use borrow.Author.Tests.{lt-ltb, le-ltb}
-use lib.Dec.{T, leb, ltb, leb→le, ltb→lt}
+use lib.Dec.{leb, ltb, leb→le, ltb→lt}
 use lib.IntN.{ℤ}
 use lib.ListN.{length, drop}
 use Rattle.lists.specs.Prelude.{begins}
@@ -12,19 +12,16 @@ use Rattle.lists.proofs.Order.{T-true, true-T}
 use Rattle.lists.proofs.Lists.{and-split}
 use Rattle.answers.specs.declared.SearchState.{SearchState}
 use Rattle.pattern_set.specs.PatternSet.{PatternSet, readSet}
-use Rattle.matching.specs.Hits.{hitWords}
+use Rattle.matching.specs.Matching.{hitWords}
 use Rattle.model.specs.Refusals.{firstMet, unless, told, after}
-use Rattle.model.specs.SetEntries.{isBroken, setOf, isUnsearchable}
-use Rattle.model.specs.Nodes.{nodes, headOf}
-use Rattle.model.specs.AutomatonWords.{automatonWords}
-use Rattle.model.specs.State.{goodMinima, goodState}
-use Rattle.model.specs.Step.{Called, call}
-use Rattle.model.specs.SearchEntries.{Counts, streamConditions, streamEntry, streamState}
+use Rattle.model.specs.Entries.{isBroken, setOf, isUnsearchable, Counts, streamConditions, streamEntry, streamState}
+use Rattle.model.specs.Automaton.{nodes, headOf, automatonWords}
+use Rattle.model.specs.Search.{goodMinima, goodState, Called, call}
 use Rattle.model.proofs.Refusals.{met, unmet, leave}
 use Rattle.set_arrays.proofs.Checked.{broken-searchable, empty-unsearchable, filled-searchable}
-use Rattle.stream_step.proofs.More.{length-hitWords}
 use Rattle.stream_call.specs.declared.Taken.{Taken}
 use Rattle.stream_call.specs.Taken.{IsTaken}
+use Rattle.matching.proofs.HitWords.{length-hitWords}
 
 -- what is known of an accepted state
 pub record Accepted (ps : PatternSet) (st : SearchState) : Type 0 where

@@ -15,29 +15,16 @@ use Rattle.lists.specs.Prelude.{tabulate, select, same}
 use Rattle.lists.proofs.Lists.{same-eq}
 use Rattle.lists.proofs.Select.{getD-mem, mem-below}
 use Rattle.pattern_set.specs.PatternSet.{PatternSet, goodSet}
-use Rattle.matching.specs.Heads.{isHead, failure, chainWithin, chain}
-use Rattle.model.specs.Nodes.{nodes, headOf, nodeOf}
-use Rattle.model.specs.AutomatonWords.{order, endsAt, firstEnd}
-use Rattle.model.specs.Step.{endingAt, listed}
+use Rattle.matching.specs.Matching.{isHead, failure, chainWithin, chain}
+use Rattle.model.specs.Automaton.{nodes, headOf, nodeOf, order, endsAt, firstEnd}
+use Rattle.model.specs.Search.{endingAt, listed}
 use Rattle.model.proofs.More.{select-empty}
 use Rattle.model.proofs.Nodes.{good-length, head-node, node-head, node-longer, failure-isHead, failure-shorter}
 use Rattle.model.proofs.Order.{firstPlace, length-order, order-ending, ends-within}
 use Rattle.stream_step.proofs.More.{select-two}
+use Rattle.model.proofs.Chains.{chain-enough}
 
 -- ---- the chain
-
--- as many failure links as the head has distances are enough
-enough : (ps : PatternSet) (n m : ℕ) (h : List ℕ) → length h ≤ n → length h ≤ m → chainWithin n ps h ≡ chainWithin m ps h
-unfolding chainWithin
-enough ps zero zero h l k = refl
-enough ps zero (suc m) [] l k = refl
-enough ps (suc n) zero [] l k = refl
-enough ps (suc n) (suc m) [] l k = refl
-enough ps zero (suc m) (x ∷ h) l k = absurd (let z : ⊥ = omega arith in z)
-enough ps (suc n) zero (x ∷ h) l k = absurd (let z : ⊥ = omega arith in z)
-enough ps (suc n) (suc m) (x ∷ h) l k =
-    let s = failure-shorter ps (x ∷ h) (omega arith) in
-    ap (λ (c : List (List ℕ)). (x ∷ h) ∷ cond (eqb (length (x ∷ h)) 0) [] c) (enough ps n m (failure ps (x ∷ h)) (omega arith) (omega arith))
 
 chain-root : (ps : PatternSet) → chain ps [] ≡ [] ∷ []
 unfolding chainWithin
@@ -48,7 +35,7 @@ unfolding chainWithin
 chain-more ps x h =
     let s = failure-shorter ps (x ∷ h) (omega arith) in
     rw (eqb·suc-zero (length h))
-    (ap (λ (c : List (List ℕ)). (x ∷ h) ∷ c) (enough ps (length h) (length (failure ps (x ∷ h))) (failure ps (x ∷ h)) (omega arith) (le-refl (length (failure ps (x ∷ h))))))
+    (ap (λ (c : List (List ℕ)). (x ∷ h) ∷ c) (chain-enough ps (length h) (length (failure ps (x ∷ h))) (failure ps (x ∷ h)) (omega arith) (le-refl (length (failure ps (x ∷ h))))))
 
 -- ---- the patterns that end at one head
 

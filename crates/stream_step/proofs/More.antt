@@ -12,9 +12,10 @@ use Rattle.lists.specs.Prelude.{select}
 use Rattle.lists.proofs.Order.{T-true}
 use Rattle.lists.proofs.Lists.{length-snoc}
 use Rattle.lists.proofs.Members.{map-append}
-use Rattle.matching.specs.Hits.{hitWords}
+use Rattle.matching.specs.Matching.{hitWords}
 use Rattle.model.proofs.More.{length-select}
 use Rattle.stream_step.specs.PlaceWords.{placeWords}
+use Rattle.matching.proofs.HitWords.{length-hitWords, hitWords-append}
 
 -- ---- a part of an array
 
@@ -49,16 +50,6 @@ select-two {A} s t u (x ∷ xs) f g h =
     one false p false q c r = omega arith
 
 -- ---- words of hits
-
-pub length-hitWords : (hs : List (ℕ × ℕ)) → length (hitWords hs) ≡ 2 * length hs
-unfolding hitWords
-length-hitWords [] = refl
-length-hitWords (h ∷ hs) = omega (arith, length-hitWords hs)
-
-pub hitWords-append : (hs gs : List (ℕ × ℕ)) → hitWords (hs ++ gs) ≡ hitWords hs ++ hitWords gs
-unfolding hitWords
-hitWords-append [] gs = refl
-hitWords-append (h ∷ hs) gs = ap (λ (l : List ℕ). h .0 ∷ h .1 ∷ l) (hitWords-append hs gs)
 
 pub length-placeWords : (p : ℕ) (js : List ℕ) → length (placeWords p js) ≡ 2 * length js
 length-placeWords p js = length-hitWords (map (λ j. (p, j)) js) ∙ ap (λ (n : ℕ). 2 * n) (length-map js (λ (j : ℕ). (p, j)))

@@ -3,41 +3,25 @@
 -- link shortens the head, so the attempts are at most one more than the head has distances.
 use mathlib.Core.Path.{_≡_, refl, sym, _∙_, ap, subst}
 use mathlib.Core.Bool.{Bool, true, false, cond}
-use mathlib.Core.List.{List, [], _∷_, List·Memᴰ, List·Memᴰ·head}
+use mathlib.Core.List.{List, [], _∷_}
 use Prim.Native.Nat.{ℕ, zero, suc, _+_, _≤_, _<_}
 use native.Mathlib.Omega.{arith}
 use native.Mathlib.Nat.{le-refl}
 use lib.Dec.{T, leb}
-use lib.ListN.{length, take}
+use lib.ListN.{length}
 use borrow.Author.Tests.{leb-true}
-use Rattle.lists.specs.Prelude.{any, begins}
 use Rattle.lists.proofs.Order.{T-true, true-T}
-use Rattle.lists.proofs.Lists.{eq-same, mem-any, all-mem, length-snoc}
-use Rattle.cartesian.specs.Distances.{cut}
-use Rattle.realization.specs.Realizable.{walk, realizable}
+use Rattle.lists.proofs.Lists.{length-snoc}
+use Rattle.cartesian.specs.Cartesian.{cut}
 use Rattle.pattern_set.specs.PatternSet.{PatternSet, goodSet}
-use Rattle.matching.specs.Heads.{isHead, failure}
-use Rattle.model.specs.Nodes.{nodes, headOf}
-use Rattle.model.specs.Step.{extended, advanceWithin, advance}
-use Rattle.model.proofs.Nodes.{good-length, good-realizable, head-node, node-head, head-length, failure-shorter}
+use Rattle.matching.specs.Matching.{isHead, failure}
+use Rattle.model.specs.Automaton.{nodes, headOf}
+use Rattle.model.specs.Search.{extended, advanceWithin, advance}
+use Rattle.model.proofs.Nodes.{head-node, node-head, head-length, failure-shorter}
 use Rattle.stream_step.specs.Reached.{Reached}
+use Rattle.model.proofs.Chains.{zero-isHead}
 
 -- ---- the root's branch
-
--- a realizable list begins with distance 0
-first-zero : (p : List ℕ) → T (realizable p) → 0 < length p → take 1 p ≡ 0 ∷ []
-unfolding realizable walk any
-first-zero [] t h = absurd (let z : ⊥ = omega arith in z)
-first-zero (zero ∷ p) t h = refl
-first-zero (suc d ∷ p) t h = absurd t
-
-zero-isHead : (ps : PatternSet) → T (goodSet ps) → 0 < length ps → T (isHead ps (0 ∷ []))
-unfolding isHead
-zero-isHead [] g h = absurd (let z : ⊥ = omega arith in z)
-zero-isHead (p ∷ ps) g h =
-    let m : List·Memᴰ p (p ∷ ps) = List·Memᴰ·head refl in
-    mem-any (λ p. begins p (0 ∷ [])) (p ∷ ps) p m
-    (eq-same (take 1 p) (0 ∷ []) (first-zero p (all-mem realizable (p ∷ ps) (good-realizable (p ∷ ps) g) p m) (good-length (p ∷ ps) g p m .0)))
 
 cut-zero : (d : ℕ) → cut 0 d ≡ 0
 cut-zero d = go (leb d 0) refl

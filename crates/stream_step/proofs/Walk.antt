@@ -9,12 +9,11 @@ use lib.ListN.{length}
 use borrow.Author.Tests.{le-leb, lt-leb}
 use Rattle.lists.proofs.Order.{T-true}
 use Rattle.lists.proofs.Lists.{length-snoc}
-use Rattle.cartesian.specs.Distances.{cut}
+use Rattle.cartesian.specs.Cartesian.{cut}
 use Rattle.pattern_set.specs.PatternSet.{PatternSet, goodSet}
-use Rattle.matching.specs.Heads.{isHead, failure}
-use Rattle.model.specs.Nodes.{nodes, headOf, nodeOf}
-use Rattle.model.specs.AutomatonWords.{firstChild, children}
-use Rattle.model.specs.Step.{advance}
+use Rattle.matching.specs.Matching.{isHead, failure}
+use Rattle.model.specs.Automaton.{nodes, headOf, nodeOf, firstChild, children}
+use Rattle.model.specs.Search.{advance}
 use Rattle.model.proofs.Nodes.{head-node, node-head, node-root, head-length, failure-isHead, failure-shorter}
 use Rattle.model.proofs.Children.{firstChild-within}
 use Rattle.automaton_lookup.specs.Made.{childOf}

@@ -10,11 +10,9 @@ use lib.Seq.{take-length}
 use Rattle.lists.specs.Prelude.{all}
 use Rattle.lists.proofs.Lists.{and-split}
 use Rattle.pattern_set.specs.PatternSet.{PatternSet, goodPattern, goodSet}
-use Rattle.matching.specs.Hits.{hitWords}
-use Rattle.matching.specs.Heads.{failure, chain}
-use Rattle.model.specs.Nodes.{nodes, headOf, nodeOf}
-use Rattle.model.specs.AutomatonWords.{endsAt, firstEnd}
-use Rattle.model.specs.Step.{endingAt, listed}
+use Rattle.matching.specs.Matching.{hitWords, failure, chain}
+use Rattle.model.specs.Automaton.{nodes, headOf, nodeOf, endsAt, firstEnd}
+use Rattle.model.specs.Search.{endingAt, listed}
 use Rattle.model.proofs.Nodes.{node-root}
 use Rattle.model.proofs.Order.{firstPlace, order-lt, ends-within}
 use Rattle.stream_step.specs.PlaceWords.{placeWords}
@@ -41,7 +39,7 @@ ends-start ps h p k d first n e a b r =
     record { place = a; number = omega arith; order = omega (arith, ends-within ps h); part = omega arith; words = refl; sized = refl; room = omega arith }
 
 -- a number of the order is below that of the patterns, of which there are at most 64
-pub number-small : (ps : PatternSet) → T (goodSet ps) → (i v : ℕ) → i < length ps → v ≡ getD (Rattle.model.specs.AutomatonWords.order ps) i 0 → v < 64
+pub number-small : (ps : PatternSet) → T (goodSet ps) → (i v : ℕ) → i < length ps → v ≡ getD (Rattle.model.specs.Automaton.order ps) i 0 → v < 64
 unfolding goodSet
 number-small ps g i v h e =
     let a = and-split (leb (length ps) 64 && leb (length (flatten ps)) 4096) (all goodPattern ps) g in
@@ -49,12 +47,12 @@ number-small ps g i v h e =
     omega (arith, order-lt ps i h, leb→le (length ps) 64 (b .0))
 
 pub ends-more : (ps : PatternSet) (h : List ℕ) (p k : ℕ) (d : List ℕ) (first n i : ℕ) (hits : List ℕ) (v : ℕ) → Ends ps h p k d first n i hits → i < n
-    → v ≡ getD (Rattle.model.specs.AutomatonWords.order ps) (first + i) 0 → Ends ps h p k d first n (i + 1) (set (set hits (2 * i) p) (2 * i + 1) v)
+    → v ≡ getD (Rattle.model.specs.Automaton.order ps) (first + i) 0 → Ends ps h p k d first n (i + 1) (set (set hits (2 * i) p) (2 * i + 1) v)
 ends-more ps h p k d first n i hits v w l e =
     let E = endingAt ps h in
     let f : v ≡ getD E i 0 =
     e
-    ∙ ap (λ (q : ℕ). getD (Rattle.model.specs.AutomatonWords.order ps) (q + i) 0) (w .place)
+    ∙ ap (λ (q : ℕ). getD (Rattle.model.specs.Automaton.order ps) (q + i) 0) (w .place)
     ∙ ending-at-place ps h i (omega (arith, w .number, length-endingAt ps h)) in
     let s : length (set (set hits (2 * i) p) (2 * i + 1) v) ≡ length hits = length-set (set hits (2 * i) p) (2 * i + 1) v ∙ length-set hits (2 * i) p in
     record {

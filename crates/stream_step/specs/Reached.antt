@@ -1,8 +1,8 @@
 -- What one step over the automaton of a set finds.
 use Rattle.lists.specs.Prelude.{_≡_, ℕ}
 use Rattle.pattern_set.specs.PatternSet.{PatternSet}
-use Rattle.model.specs.Nodes.{headOf, nodeOf}
-use Rattle.model.specs.Step.{advance}
+use Rattle.model.specs.Automaton.{headOf, nodeOf}
+use Rattle.model.specs.Search.{advance}
 
 -- m is the node that the step of distance d leads to from node n, and a the number of its attempts
 pub record Reached (ps : PatternSet) (n d m a : ℕ) : Type 0 where

@@ -6,15 +6,11 @@ use lib.Dec.{T, eqb, eqb→eq}
 use lib.IntN.{ℤ, pos, negsuc}
 use Rattle.lists.specs.Prelude.{tabulate, lastBelow, any, select, same}
 use Rattle.lists.proofs.Lists.{and-split}
-use Rattle.cartesian.specs.Tree.{size, leftmostFrom, leftmost, treeWithin, tree, sameTree}
-use Rattle.cartesian.specs.Distances.{distanceAt, distances, cutFrom}
-use Rattle.cartesian.specs.TreeOf.{rootPlace, treeOfWithin, treeOf}
-use Rattle.realization.specs.Realizable.{walk, realizable}
-use Rattle.realization.specs.LeastRealization.{leftTurns, leastRealization}
-use Rattle.realization.specs.FailureLength.{failureLength, failureLengths}
+use Rattle.cartesian.specs.Cartesian.{size, leftmostFrom, leftmost, treeWithin, tree, sameTree, distanceAt, distances, cutFrom, rootPlace, treeOfWithin, treeOf}
+use Rattle.realization.specs.Realization.{walk, realizable, leftTurns, leastRealization, failureLength, failureLengths}
 use Rattle.global_parents.specs.GlobalParents.{lastLeftChild, isPrefixChild, globalParent, globalParents}
 use Rattle.ranking.specs.Rank.{factorial, rankFrom, unrank, isRank}
-use Rattle.matching.specs.Hits.{hasTree, numbersFrom, endHits, hitsAt, hits, hitWords}
+use Rattle.matching.specs.Matching.{hasTree, numbersFrom, endHits, hitsAt, hits, hitWords}
 use Rattle.worked_cases.specs.Table.{Case, table}
 
 equal : ℤ → ℤ → Bool

@@ -6,7 +6,7 @@ use mathlib.Core.List.{_++_, flatten}
 use Prim.Native.Nat.{_+_, _*_, _≤_}
 use lib.ListN.{length, drop}
 use Rattle.answers.specs.Told.{toldSize}
-use Rattle.model.specs.AutomatonWords.{automatonWords}
+use Rattle.model.specs.Automaton.{automatonWords}
 use Rattle.model.proofs.Lengths.{length-automaton}
 use Rattle.set_access.specs.Patterns.{patternsOf, Good}
 use Rattle.set_access.proofs.Laws.{count-le, total-le}

@@ -5,8 +5,7 @@ use borrow.Author.Tests.{not-true, not-false}
 use mathlib.Core.Path.{_≡_, sym, _∙_}
 use Prim.Native.Nat.{_+_, _*_, _≤_}
 use lib.ListN.{length, take}
-use Rattle.model.specs.Nodes.{nodes}
-use Rattle.model.specs.AutomatonWords.{automatonWords}
+use Rattle.model.specs.Automaton.{nodes, automatonWords}
 use Rattle.model.proofs.Lengths.{length-automaton}
 use Rattle.set_access.specs.Patterns.{patternsOf}
 use Rattle.set_access.proofs.Laws.{count-le}

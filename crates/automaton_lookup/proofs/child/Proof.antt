@@ -5,7 +5,7 @@ use Prim.Native.Nat.{_+_, _-_, _/_}
 use native.Mathlib.Omega.{arith}
 use borrow.Author.Needs.{needs}
 use Rattle.pattern_set.specs.PatternSet.{readSet}
-use Rattle.model.specs.SetEntries.{setOf}
+use Rattle.model.specs.Entries.{setOf}
 use Rattle.automaton_lookup.proofs.Words.{good-set}
 use Rattle.automaton_lookup.proofs.Branches.{Interval, search-none, search-all, search-upper, search-lower, search-found, search-missing}
 use Rattle.automaton_lookup.proofs.child.Statement.{statement}

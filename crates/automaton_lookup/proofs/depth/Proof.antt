@@ -1,5 +1,5 @@
 -- `depth` meets its contract: it reads the first word of the record.
-use Rattle.model.specs.AutomatonWords.{recordOf}
+use Rattle.model.specs.Automaton.{recordOf}
 use borrow.Author.Needs.{needs}
 use Rattle.automaton_lookup.proofs.depth.Statement.{statement}
 use Rattle.automaton_lookup.proofs.depth.Tie as tie

@@ -1,5 +1,5 @@
 -- `ends` meets its contract: it reads the eighth word of the record.
-use Rattle.model.specs.AutomatonWords.{recordOf}
+use Rattle.model.specs.Automaton.{recordOf}
 use borrow.Author.Needs.{needs}
 use Rattle.automaton_lookup.proofs.ends.Statement.{statement}
 use Rattle.automaton_lookup.proofs.ends.Tie as tie

@@ -1,5 +1,5 @@
 -- `failure` meets its contract: it reads the third word of the record.
-use Rattle.model.specs.AutomatonWords.{recordOf}
+use Rattle.model.specs.Automaton.{recordOf}
 use borrow.Author.Needs.{needs}
 use Rattle.automaton_lookup.proofs.failure.Statement.{statement}
 use Rattle.automaton_lookup.proofs.failure.Tie as tie

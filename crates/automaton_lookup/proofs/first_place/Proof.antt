@@ -1,5 +1,5 @@
 -- `first_place` meets its contract: it reads the seventh word of the record.
-use Rattle.model.specs.AutomatonWords.{recordOf}
+use Rattle.model.specs.Automaton.{recordOf}
 use borrow.Author.Needs.{needs}
 use Rattle.automaton_lookup.proofs.first_place.Statement.{statement}
 use Rattle.automaton_lookup.proofs.first_place.Tie as tie

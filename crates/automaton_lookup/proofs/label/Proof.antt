@@ -1,5 +1,5 @@
 -- `label` meets its contract: it reads the second word of the record.
-use Rattle.model.specs.AutomatonWords.{recordOf}
+use Rattle.model.specs.Automaton.{recordOf}
 use borrow.Author.Needs.{needs}
 use Rattle.automaton_lookup.proofs.label.Statement.{statement}
 use Rattle.automaton_lookup.proofs.label.Tie as tie

@@ -5,8 +5,7 @@ use Prim.Native.Nat.{ℕ, _+_, _-_, _≤_}
 use lib.ListN.{length, getD}
 use mathlib.Core.List.{[]}
 use Rattle.set_access.specs.Patterns.{patternsOf}
-use Rattle.model.specs.Nodes.{headOf}
-use Rattle.model.specs.AutomatonWords.{endsAt}
+use Rattle.model.specs.Automaton.{headOf, endsAt}
 use Rattle.model.proofs.Order.{order-lt}
 use Rattle.automaton_records.proofs.Shared.{patternAt}
 use Rattle.automaton_records.proofs.Intervals.{ends-le-begins, ends-more, ends-stop}

@@ -4,8 +4,8 @@ use mathlib.Core.Path.{_≡_, sym, _∙_, ap}
 use mathlib.Core.List.{[], _∷_, _++_}
 use Prim.Native.Nat.{ℕ, _+_, _-_, _<_}
 use Rattle.set_access.specs.Patterns.{patternsOf}
-use Rattle.matching.specs.Heads.{failure}
-use Rattle.model.specs.Nodes.{headOf, nodeOf}
+use Rattle.matching.specs.Matching.{failure}
+use Rattle.model.specs.Automaton.{headOf, nodeOf}
 use Rattle.set_access.proofs.Laws.{good-set}
 use Rattle.automaton_records.proofs.Parents.{firstChild-rises}
 use Rattle.automaton_records.proofs.Links.{reached, link-root, link-start, link-found, link-on}

@@ -2,7 +2,7 @@
 -- as many distances as the head has (`interval-more`, `interval-stops`). The measure is the number of places left.
 use Prim.Native.Nat.{_+_, _-_, _≤_, _<_}
 use Rattle.set_access.specs.Patterns.{patternsOf}
-use Rattle.model.specs.Nodes.{headOf}
+use Rattle.model.specs.Automaton.{headOf}
 use Rattle.model.proofs.Order.{firstPlace, beginsAt}
 use Rattle.automaton_records.proofs.Shared.{interval-more, interval-stops, interval-last}
 use Rattle.automaton_records.proofs.Sizes.{node-some}

@@ -4,11 +4,10 @@ use mathlib.Core.List.{[]}
 use Prim.Native.Nat.{ℕ, _-_}
 use lib.ListN.{length, getD}
 use Rattle.set_access.specs.Patterns.{patternsOf}
-use Rattle.model.specs.Nodes.{headOf}
+use Rattle.model.specs.Automaton.{headOf, order}
 use Rattle.set_access.proofs.Laws.{good-set}
 use Rattle.model.proofs.Nodes.{node-head, node-longer}
 use Rattle.model.proofs.Order.{order-lt, firstPlace}
-use Rattle.model.specs.AutomatonWords.{order}
 use Rattle.automaton_records.proofs.Shared.{patternAt}
 use Rattle.automaton_records.proofs.Intervals.{label-at, first-place-length}
 use native.Mathlib.Omega.{arith}

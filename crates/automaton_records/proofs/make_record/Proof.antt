@@ -6,8 +6,8 @@ use lib.Dec.{T}
 use lib.ListN.{length}
 use Rattle.set_access.specs.Patterns.{patternsOf}
 use Rattle.set_access.proofs.Laws.{good-set}
-use Rattle.matching.specs.Heads.{isHead, failure}
-use Rattle.model.specs.Nodes.{headOf, nodeOf}
+use Rattle.matching.specs.Matching.{isHead, failure}
+use Rattle.model.specs.Automaton.{headOf, nodeOf}
 use Rattle.model.proofs.Nodes.{node-head}
 use Rattle.model.proofs.Order.{ends-within}
 use Rattle.automaton_records.proofs.Parents.{firstChild-next, children-within, parent-below}

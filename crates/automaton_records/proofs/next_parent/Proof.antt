@@ -4,7 +4,7 @@ use mathlib.Core.Path.{_≡_, ap}
 use Prim.Native.Nat.{_-_, _≤_}
 use Rattle.set_access.specs.Patterns.{patternsOf}
 use Rattle.set_access.proofs.Laws.{good-set}
-use Rattle.model.specs.AutomatonWords.{firstChild}
+use Rattle.model.specs.Automaton.{firstChild}
 use Rattle.model.proofs.Children.{parentNode}
 use Rattle.automaton_records.proofs.Parents.{parent-range, parent-smaller, parent-from, parent-later, parent-found}
 use native.Mathlib.Omega.{arith}

@@ -3,7 +3,7 @@ use mathlib.Core.Path.{_∙_}
 use Prim.Native.Nat.{_-_}
 use Rattle.set_access.specs.Patterns.{patternsOf}
 use Rattle.set_access.proofs.Laws.{good-set}
-use Rattle.model.specs.Nodes.{headOf}
+use Rattle.model.specs.Automaton.{headOf}
 use Rattle.model.proofs.Order.{ends-within}
 use Rattle.automaton_records.proofs.Parents.{parent-below, place-first, place-next}
 use native.Mathlib.Omega.{arith}

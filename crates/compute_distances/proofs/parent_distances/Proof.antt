@@ -8,7 +8,7 @@ use lib.Seq.{take-at}
 use lib.IntN.{pos}
 use Rattle.lists.specs.Prelude.{tabulate}
 use Rattle.lists.proofs.Lists.{tabulate-more, length-tabulate}
-use Rattle.cartesian.specs.Distances.{distanceAt, distances}
+use Rattle.cartesian.specs.Cartesian.{distanceAt, distances}
 use Rattle.cartesian.proofs.Seek.{seek-le, dist-none, dist-some}
 use native.Mathlib.Omega.{arith}
 use borrow.Author.Needs.{needs}

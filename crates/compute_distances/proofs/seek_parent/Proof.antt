@@ -6,7 +6,7 @@ use lib.ListN.{getD}
 use lib.IntN.{pos}
 use lib.Signed.{leZ}
 use Rattle.lists.proofs.Lists.{lastBelow-yes, lastBelow-end}
-use Rattle.cartesian.specs.Distances.{seek, distanceAt}
+use Rattle.cartesian.specs.Cartesian.{seek, distanceAt}
 use Rattle.cartesian.proofs.Seek.{jump-none, jump-some, distance-le}
 use Rattle.compute_distances.proofs.Laws.{filled}
 use native.Mathlib.Omega.{arith}

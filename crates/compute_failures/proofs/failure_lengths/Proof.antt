@@ -7,7 +7,7 @@ use lib.ListN.{length, drop, take, set, length-set}
 use lib.Seq.{take-at}
 use Rattle.lists.specs.Prelude.{tabulate}
 use Rattle.lists.proofs.Lists.{tabulate-more, length-tabulate}
-use Rattle.realization.specs.FailureLength.{failureLength, failureLengths}
+use Rattle.realization.specs.Realization.{failureLength, failureLengths}
 use Rattle.compute_failures.proofs.Laws.{failure-lt}
 use native.Mathlib.Omega.{arith}
 use borrow.Author.Needs.{needs}

@@ -2,8 +2,7 @@
 -- The next shorter such tail is the longest of this tail itself, which `out` has. The measure is m.
 use mathlib.Core.Path.{_≡_, sym, _∙_}
 use Rattle.lists.proofs.Order.{T-true}
-use Rattle.realization.specs.Realizable.{realizable}
-use Rattle.realization.specs.FailureLength.{failureLength}
+use Rattle.realization.specs.Realization.{realizable, failureLength}
 use Rattle.compute_failures.proofs.Laws.{Candidate, search-one, search-first, search-yes, search-no, search-end, failure-lt, filled}
 use native.Mathlib.Omega.{arith}
 use borrow.Author.Needs.{needs}

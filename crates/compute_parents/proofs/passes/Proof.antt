@@ -6,7 +6,7 @@ use mathlib.Core.Path.{_≡_, sym, _∙_}
 use lib.ListN.{getD}
 use borrow.Author.Tests.{not-true, not-false}
 use borrow.Author.Count.{below-more}
-use Rattle.global_parents.specs.GlobalParents.{passesAt}
+use Rattle.global_parents.specs.Passes.{passesAt}
 use Rattle.compute_parents.proofs.WindowCheck.{PassBelow, check-passes, check-fails}
 use Rattle.compute_parents.proofs.passes.Statement.{statement}
 use Rattle.compute_parents.proofs.passes.Tie as tie

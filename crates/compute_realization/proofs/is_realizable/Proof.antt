@@ -5,7 +5,7 @@ use mathlib.Core.Path.{_≡_, refl, sym, _∙_}
 use borrow.Author.Tests.{not-true, not-false}
 use borrow.Author.Count.{below-none, below-more}
 use lib.ListN.{drop}
-use Rattle.realization.specs.Realizable.{walk, realizable}
+use Rattle.realization.specs.Realization.{walk, realizable}
 use Rattle.compute_realization.specs.OpenPlaces.{openPlaces, Led}
 use Rattle.compute_realization.proofs.OpenPlaces.{walk-on, walk-stop, walk-end}
 use native.Mathlib.Omega.{arith}

@@ -8,7 +8,7 @@ use lib.ListN.{length, getD, take, drop, length-set}
 use mir.Syntax.{w32}
 use mir.Val.{toZ, ofZ}
 use Rattle.lists.proofs.Order.{back-i32}
-use Rattle.realization.specs.LeastRealization.{leastRealization}
+use Rattle.realization.specs.Realization.{leastRealization}
 use Rattle.compute_realization.specs.NextLower.{IsNext}
 use Rattle.compute_realization.proofs.NextLower.{least-more, least-zero}
 use Rattle.compute_realization.proofs.Values.{written, values-none, values-more, values-at, values-room, next-more}

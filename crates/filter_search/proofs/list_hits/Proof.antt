@@ -8,7 +8,7 @@ use lib.Dec.{leb}
 use lib.ListN.{length}
 use lib.Seq.{length-sets}
 use Rattle.set_access.specs.Patterns.{patternsOf}
-use Rattle.matching.specs.Hits.{hits, hitWords}
+use Rattle.matching.specs.Matching.{hits, hitWords}
 use Rattle.filter_search.proofs.Answers.{list-refused, list-found}
 use Rattle.filter_search.proofs.list_hits.Statement.{statement}
 use Rattle.filter_search.proofs.list_hits.Tie as tie

@@ -1,4 +1,4 @@
--- The tables are filled from arrays of zeros, one call after the other; the pass over the text and the list find them as they were filled.
+-- The tables are filled from arrays of zeros, one call after the other; the search finds them as they were filled.
 use mathlib.Core.Path.{sym, _∙_}
 use Prim.Native.Nat.{ℕ}
 use borrow.Author.Needs.{needs}
@@ -26,25 +26,9 @@ fill-fits-requires c κs =
     let f = c .before .before .before .before .before .before .before .before in
     (f .before .before .before .before .pre .0, (f .fill-numbers .ensures .0, empty-zeros))
 
-first-pass-requires : tie.Need-first-pass-requires
-first-pass-requires c κs =
-    let f = c .before .before .before .before .before in
-    let o = f .before .before .before in
-    let n = o .before .before .before .before .before .before in
-    let s = n .before .before .before .before in (
-      s .pre .0,
-      (
-        (s .pre .1, length-replicate {A = ℕ} 512 0),
-        (
-          n .fill-numbers .ensures .0,
-          record { byLow = o .fill-own-tables .ensures .0; byHigh = o .fill-own-tables .ensures .1; byPlace = f .fill-fits .ensures },
-        ),
-      ),
-    )
-
-slice-aggregate-list-hits : tie.Need-slice-aggregate-list-hits
-slice-aggregate-list-hits c =
-    let f = c .before .before .before .before .before .before .before .before .before .before .before .before .before .before .before .before .before .before .before in
+slice-aggregate-search-by : tie.Need-slice-aggregate-search-by
+slice-aggregate-search-by c =
+    let f = c .before .before .before .before .before .before .before .before .before .before .before .before in
     let s = f .before .before .before .before .before .before in
     let ws = s .args .set .now in
     let g = s .pre .0 in
@@ -52,24 +36,19 @@ slice-aggregate-list-hits c =
     (parents-length (patternsOf ws) _ _ (good-set ws g) (f .fill-parents .ensures .0) (rw (length-replicate {A = ℕ} 4096 0) (total-le ws g)) (f .fill-parents .ensures .1)
     ∙ length-replicate {A = ℕ} 4096 0)
 
-list-hits-requires : tie.Need-list-hits-requires
-list-hits-requires c κs =
-    let k = c .before .before .before .before .before .before .before in
-    let f = k .before .before .before .before .before .before in
+search-by-requires : tie.Need-search-by-requires
+search-by-requires c κs =
+    let f = c .before .before .before .before .before .before in
     let o = f .before .before .before in
     let p = o .before .before .before .before in
     let n = p .before .before in
-    let s = n .before .before .before .before in
-    let e = k .first-pass .ensures in (
+    let s = n .before .before .before .before in (
       s .pre .0,
       (
-        (s .pre .1, e .0, e .1 .0),
+        s .pre .1,
         (
-          e .1 .1,
-          (
-            record { byLow = o .fill-own-tables .ensures .0; byHigh = o .fill-own-tables .ensures .1; byPlace = f .fill-fits .ensures },
-            record { ranks = n .fill-numbers .ensures .0; parentLists = p .fill-parents .ensures .0 },
-          ),
+          record { byLow = o .fill-own-tables .ensures .0; byHigh = o .fill-own-tables .ensures .1; byPlace = f .fill-fits .ensures },
+          record { ranks = n .fill-numbers .ensures .0; parentLists = p .fill-parents .ensures .0 },
         ),
       ),
     )
@@ -78,7 +57,7 @@ same-length : tie.Need-same-length
 same-length c = search needs
 
 returns : tie.Need-returns
-returns c = c .before .before .list-hits .ensures
+returns c = c .before .before .search-by .ensures
 
 pub search-spec : {M : Type 1} → statement M
 search-spec =
@@ -88,8 +67,7 @@ search-spec =
     fill-parents-requires
     fill-own-tables-requires
     fill-fits-requires
-    first-pass-requires
-    slice-aggregate-list-hits
-    list-hits-requires
+    slice-aggregate-search-by
+    search-by-requires
     same-length
     returns)

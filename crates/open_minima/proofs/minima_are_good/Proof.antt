@@ -3,7 +3,7 @@
 use Prim.Native.Nat.{_+_, _≤_}
 use mathlib.Core.Path.{sym, _∙_}
 use mathlib.Core.Logic.{⊎-elim}
-use Rattle.model.specs.State.{placeAt}
+use Rattle.model.specs.Search.{placeAt}
 use Rattle.open_minima.specs.Parts.{stateOf}
 use Rattle.open_minima.proofs.Ways.{good-none, good-many, good-untaken, good-elsewhere, good-stale, good-ordered}
 use native.Mathlib.Omega.{arith}

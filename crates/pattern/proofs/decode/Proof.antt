@@ -7,7 +7,7 @@ use borrow.Author.Tests.{not-true, not-false}
 use lib.ListN.{length}
 use Rattle.answers.specs.declared.Refusal.{Refusal}
 use Rattle.ranking.proofs.Rank.{length-unrank}
-use Rattle.model.specs.PatternEntries.{decodeEntry}
+use Rattle.model.specs.Entries.{decodeEntry}
 use Rattle.pattern.proofs.Laws.{refused, written, decode-empty, decode-code-too-long, decode-not-realizable, decode-array-too-short, decode-good}
 use Rattle.pattern.proofs.decode.Statement.{statement}
 use Rattle.pattern.proofs.decode.Tie as tie

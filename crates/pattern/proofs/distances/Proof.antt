@@ -3,7 +3,7 @@ use native.Mathlib.Omega.{arith}
 use borrow.Author.Needs.{needs}
 use Rattle.answers.specs.declared.Refusal.{Refusal}
 use Rattle.cartesian.proofs.Seek.{length-distances}
-use Rattle.model.specs.PatternEntries.{distancesEntry}
+use Rattle.model.specs.Entries.{distancesEntry}
 use Rattle.pattern.proofs.Laws.{refused, written, distances-empty, distances-too-long, distances-array-too-short, distances-good}
 use Rattle.pattern.proofs.distances.Statement.{statement}
 use Rattle.pattern.proofs.distances.Tie as tie

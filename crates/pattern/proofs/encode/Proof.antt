@@ -4,7 +4,7 @@ use native.Mathlib.Omega.{arith}
 use borrow.Author.Needs.{needs}
 use borrow.Author.Tests.{not-true, not-false}
 use Rattle.answers.specs.declared.Refusal.{Refusal}
-use Rattle.model.specs.PatternEntries.{encodeEntry}
+use Rattle.model.specs.Entries.{encodeEntry}
 use Rattle.pattern.proofs.Laws.{tells-refused, tells, encode-empty, encode-too-long, encode-code-too-long, encode-not-realizable, encode-good}
 use Rattle.pattern.proofs.encode.Statement.{statement}
 use Rattle.pattern.proofs.encode.Tie as tie

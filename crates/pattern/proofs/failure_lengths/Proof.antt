@@ -2,8 +2,8 @@
 -- `compute_failures::failure_lengths` writes.
 use borrow.Author.Needs.{needs}
 use lib.ListN.{length}
-use Rattle.realization.specs.FailureLength.{failureLengths}
-use Rattle.model.specs.PatternEntries.{listEntry}
+use Rattle.realization.specs.Realization.{failureLengths}
+use Rattle.model.specs.Entries.{listEntry}
 use Rattle.pattern.proofs.Laws.{refused, written, checked-refused, checked-good, list-unmet, length-failureLengths}
 use Rattle.pattern.proofs.failure_lengths.Statement.{statement}
 use Rattle.pattern.proofs.failure_lengths.Tie as tie

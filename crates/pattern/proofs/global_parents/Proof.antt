@@ -3,10 +3,11 @@
 use borrow.Author.Needs.{needs}
 use lib.ListN.{length}
 use Rattle.global_parents.specs.GlobalParents.{globalParents}
-use Rattle.model.specs.PatternEntries.{listEntry}
-use Rattle.pattern.proofs.Laws.{refused, written, checked-refused, checked-good, list-unmet, length-globalParents}
+use Rattle.model.specs.Entries.{listEntry}
+use Rattle.pattern.proofs.Laws.{refused, written, checked-refused, checked-good, list-unmet}
 use Rattle.pattern.proofs.global_parents.Statement.{statement}
 use Rattle.pattern.proofs.global_parents.Tie as tie
+use Rattle.global_parents.proofs.Parents.{length-globalParents}
 
 check-list-requires : tie.Need-check-list-requires
 check-list-requires c κs = search needs

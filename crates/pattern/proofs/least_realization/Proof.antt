@@ -2,8 +2,8 @@
 -- `compute_realization::least_realization` writes.
 use borrow.Author.Needs.{needs}
 use lib.ListN.{length}
-use Rattle.realization.specs.LeastRealization.{leastRealization}
-use Rattle.model.specs.PatternEntries.{listEntry}
+use Rattle.realization.specs.Realization.{leastRealization}
+use Rattle.model.specs.Entries.{listEntry}
 use Rattle.pattern.proofs.Laws.{refused, written, checked-refused, checked-good, list-unmet, length-leastRealization}
 use Rattle.pattern.proofs.least_realization.Statement.{statement}
 use Rattle.pattern.proofs.least_realization.Tie as tie

@@ -5,9 +5,10 @@ use borrow.Author.Needs.{needs}
 use lib.IntN.{pos}
 use lib.ListN.{getD}
 use Rattle.pattern_set.specs.PatternSet.{readSet}
-use Rattle.model.specs.Nodes.{headOf}
-use Rattle.model.specs.SetEntries.{setOf}
+use Rattle.model.specs.Automaton.{headOf}
+use Rattle.model.specs.Entries.{setOf}
 use Rattle.automaton_lookup.proofs.Words.{good-set}
+use Rattle.open_minima.specs.Parts.{minimaIn}
 use Rattle.open_minima.proofs.Laws.{good-parts}
 use Rattle.stream_step.proofs.Listed.{length-listed}
 use Rattle.stream_step.proofs.Stepping.{reached-within}
@@ -20,7 +21,7 @@ push-minimum-requires : tie.Need-push-minimum-requires
 push-minimum-requires c κs =
     let s = c .before .before .before .before .before in
     let a = s .args in
-    ((s .pre .1 .1 .0 .0, s .pre .1 .1 .0 .1), good-parts (stateFrom (a .taken) (a .node) (a .minima) (a .first) (a .places .now) (a .values .now)) ∙ s .pre .1 .1 .1)
+    ((s .pre .1 .1 .0 .0, s .pre .1 .1 .0 .1), good-parts (stateFrom (a .taken) (a .node) (minimaIn (a .taken) (a .first) (a .next)) (a .first) (a .places .now) (a .values .now)) ∙ s .pre .1 .1 .1)
 
 advance-requires : tie.Need-advance-requires
 advance-requires c κs =
@@ -48,7 +49,7 @@ returns c =
     let w = c .before .before .write-hits in
     let v = c .before .before .before .before .advance in
     let p = c .before .before .before .before .before .push-minimum in
-    stepped (setOf (readSet ws)) (good-set ws (s .pre .0 .0)) (s .pre .0 .1) (stateFrom (a .taken) (a .node) (a .minima) (a .first) (a .places .now) (a .values .now)) (getD (a .text .now) (a .i) (pos 0))
+    stepped (setOf (readSet ws)) (good-set ws (s .pre .0 .0)) (s .pre .0 .1) (stateFrom (a .taken) (a .node) (minimaIn (a .taken) (a .first) (a .next)) (a .first) (a .places .now) (a .values .now)) (getD (a .text .now) (a .i) (pos 0))
     _ _ _ _ (p .result) (v .result .node) (v .result .attempts) (w .result) (p .ensures) (v .ensures) (w .ensures .0) (w .ensures .1)
 
 pub step-spec : {M : Type 1} → statement M

@@ -3,7 +3,7 @@ use mathlib.Core.Path.{_∙_}
 use native.Mathlib.Omega.{arith}
 use borrow.Author.Needs.{needs}
 use Rattle.pattern_set.specs.PatternSet.{readSet}
-use Rattle.model.specs.SetEntries.{setOf}
+use Rattle.model.specs.Entries.{setOf}
 use Rattle.open_minima.proofs.Laws.{good-parts}
 use Rattle.stream_search.proofs.Accepted.{state-outside, state-deep, state-long, state-minima}
 use Rattle.stream_search.proofs.state_is_good.Statement.{statement}

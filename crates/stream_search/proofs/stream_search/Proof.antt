@@ -8,9 +8,8 @@ use borrow.Author.Tests.{not-true, not-false}
 use lib.ListN.{length}
 use Rattle.lists.specs.Prelude.{begins}
 use Rattle.answers.specs.Told.{toldSize}
-use Rattle.model.specs.Nodes.{nodes}
-use Rattle.model.specs.AutomatonWords.{automatonWords}
-use Rattle.model.specs.State.{goodState}
+use Rattle.model.specs.Automaton.{nodes, automatonWords}
+use Rattle.model.specs.Search.{goodState}
 use Rattle.model.proofs.Nodes.{node-root}
 use Rattle.set_arrays.proofs.Checked.{check-refused, check-good}
 use Rattle.set_access.specs.Patterns.{patternsOf, Good}

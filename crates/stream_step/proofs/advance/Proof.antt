@@ -6,8 +6,8 @@ use native.Mathlib.Omega.{arith}
 use lib.ListN.{length}
 use borrow.Author.Needs.{needs}
 use Rattle.pattern_set.specs.PatternSet.{readSet}
-use Rattle.model.specs.Nodes.{headOf}
-use Rattle.model.specs.SetEntries.{setOf}
+use Rattle.model.specs.Automaton.{headOf}
+use Rattle.model.specs.Entries.{setOf}
 use Rattle.automaton_lookup.specs.Made.{childOf}
 use Rattle.automaton_lookup.proofs.Words.{good-set}
 use Rattle.stream_step.proofs.Walk.{Walk, labelFor, children-within, walk-start, walk-on, walk-end}

@@ -5,8 +5,8 @@ use native.Mathlib.Omega.{arith}
 use lib.ListN.{length-set}
 use borrow.Author.Needs.{needs}
 use Rattle.pattern_set.specs.PatternSet.{readSet}
-use Rattle.model.specs.Nodes.{headOf}
-use Rattle.model.specs.SetEntries.{setOf}
+use Rattle.model.specs.Automaton.{headOf}
+use Rattle.model.specs.Entries.{setOf}
 use Rattle.automaton_lookup.proofs.Words.{good-set}
 use Rattle.stream_step.proofs.Writing.{Ends, ends-start, ends-more, ends-end, number-small}
 use Rattle.stream_step.proofs.write_ends.Statement.{statement}

@@ -7,9 +7,9 @@ use native.Mathlib.Omega.{arith}
 use lib.ListN.{length, take, drop, length-take, length-drop}
 use borrow.Author.Needs.{needs}
 use Rattle.pattern_set.specs.PatternSet.{readSet}
-use Rattle.model.specs.Nodes.{headOf}
-use Rattle.model.specs.Step.{endingAt, listed}
-use Rattle.model.specs.SetEntries.{setOf}
+use Rattle.model.specs.Automaton.{headOf}
+use Rattle.model.specs.Search.{endingAt, listed}
+use Rattle.model.specs.Entries.{setOf}
 use Rattle.automaton_lookup.proofs.Words.{good-set}
 use Rattle.stream_step.proofs.Listed.{failure-node}
 use Rattle.stream_step.proofs.Writing.{Written, writing-start, writing-room, writing-more, writing-end}

@@ -5,8 +5,7 @@ use mathlib.Core.Path.{_≡_, refl, _∙_, ap}
 use mathlib.Core.List.{List, _++_}
 use Prim.Native.Nat.{ℕ, _+_, _-_, _*_, _≤_, _<_}
 use lib.ListN.{length, take, drop}
-use Rattle.model.specs.Nodes.{nodes}
-use Rattle.model.specs.AutomatonWords.{automatonWords}
+use Rattle.model.specs.Automaton.{nodes, automatonWords}
 use Rattle.model.proofs.Nodes.{node-root}
 use Rattle.model.proofs.Lengths.{length-automaton}
 use Rattle.set_access.specs.Patterns.{patternsOf}

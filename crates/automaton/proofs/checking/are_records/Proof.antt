@@ -5,7 +5,7 @@ use borrow.Author.Tests.{not-true, not-false}
 use mathlib.Core.Path.{sym, _∙_}
 use Prim.Native.Nat.{_+_, _-_, _*_, _≤_, _<_}
 use lib.ListN.{length}
-use Rattle.model.specs.Nodes.{nodes}
+use Rattle.model.specs.Automaton.{nodes}
 use Rattle.model.proofs.Nodes.{node-root}
 use Rattle.model.proofs.Lengths.{length-automaton}
 use Rattle.set_access.specs.Patterns.{patternsOf}

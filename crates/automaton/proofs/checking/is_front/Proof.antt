@@ -6,7 +6,7 @@ use mathlib.Core.Path.{_≡_, sym, _∙_}
 use mathlib.Core.Bool.{true}
 use lib.ListN.{length, take, drop}
 use Rattle.lists.specs.Prelude.{tabulate, same}
-use Rattle.model.specs.AutomatonWords.{order, sharedAt}
+use Rattle.model.specs.Automaton.{order, sharedAt}
 use Rattle.set_access.specs.Patterns.{patternsOf}
 use Rattle.set_access.proofs.Laws.{count-le}
 use Rattle.automaton.proofs.More.{true-same}

@@ -12,22 +12,22 @@ shortest-length-requires c κs = search needs
 fill-key-tables-requires : tie.Need-fill-key-tables-requires
 fill-key-tables-requires c κs =
     let b = c .before .before in
-    let s = b .before .before in
-    (s .pre .0, ((s .pre .1 .1 .0, b .shortest-length .ensures), (empty-zeros, empty-zeros)))
+    let s = b .before .before .before in
+    (s .pre .0, ((s .pre .1 .1 .1 .ranks, b .shortest-length .ensures), (empty-zeros, empty-zeros)))
 
 count-candidates-requires : tie.Need-count-candidates-requires
 count-candidates-requires c κs =
     let f = c .before .before .before in
     let b = f .before .before .before in
-    let s = b .before .before in
+    let s = b .before .before .before in
     let t = f .fill-key-tables .ensures in
-    let own = s .pre .1 .1 .1 in (
+    let own = s .pre .1 .1 .0 in (
       s .pre .0,
       (
         s .pre .1 .0,
         (
           key-tables (patternsOf (s .args .set .now)) (b .shortest-length .result) _ _ _ (b .shortest-length .ensures) (t .0) (t .1) (own .byPlace),
-          own,
+          s .pre .1 .1,
         ),
       ),
     )

@@ -5,7 +5,7 @@ use native.Mathlib.Omega.{arith}
 use native.Mathlib.Numerals.{add-one}
 use borrow.Author.Needs.{needs}
 use lib.ListN.{length, take, length-append}
-use Rattle.matching.specs.Hits.{hitsAt}
+use Rattle.matching.specs.Matching.{hitsAt}
 use Rattle.set_access.specs.Patterns.{patternsOf}
 use Rattle.set_access.proofs.Laws.{good-set}
 use Rattle.filter_plan.specs.Plan.{textKey}

@@ -13,7 +13,7 @@ use Rattle.filter_search.proofs.listing.count_hits.Tie as tie
 
 abbrev Inv-loop : tie.InvT-loop
 Inv-loop set text marks lower high fits numbers parents n count₀ first₀ block₀ count first block =
-    (first ≡ block * 32) × (count + length (restHits (patternsOf set) text first) ≡ length (restHits (patternsOf set) text 0))
+    (first ≡ block * 64) × (count + length (restHits (patternsOf set) text first) ≡ length (restHits (patternsOf set) text 0))
 
 abbrev μ-loop : tie.MeasureT-loop
 μ-loop set text marks lower high fits numbers parents n count₀ first₀ block₀ count first block = n - first

@@ -6,7 +6,7 @@ use native.Mathlib.Numerals.{add-one}
 use borrow.Author.Needs.{needs}
 use lib.ListN.{length, take, length-append}
 use lib.Seq.{sets, length-sets}
-use Rattle.matching.specs.Hits.{hitsAt, hitWords}
+use Rattle.matching.specs.Matching.{hitsAt, hitWords}
 use Rattle.set_access.specs.Patterns.{patternsOf}
 use Rattle.set_access.proofs.Laws.{good-set}
 use Rattle.bit_sets.specs.BitSets.{bits}

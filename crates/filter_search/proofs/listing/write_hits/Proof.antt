@@ -6,7 +6,7 @@ use Prim.Native.Nat.{ℕ, _+_, _-_, _*_}
 use native.Mathlib.Omega.{arith}
 use lib.ListN.{length}
 use lib.Seq.{sets, length-sets}
-use Rattle.matching.specs.Hits.{hitWords}
+use Rattle.matching.specs.Matching.{hitWords}
 use Rattle.set_access.specs.Patterns.{patternsOf}
 use Rattle.set_access.proofs.Laws.{good-set}
 use Rattle.filter_search.specs.Search.{hitsFrom, restHits}
@@ -16,7 +16,7 @@ use Rattle.filter_search.proofs.listing.write_hits.Tie as tie
 
 abbrev Inv-loop : tie.InvT-loop
 Inv-loop set text marks lower high fits numbers parents out₀ n to₀ first₀ block₀ out to first block =
-    (first ≡ block * 32)
+    (first ≡ block * 64)
     × (length out ≡ length out₀)
     × (to + 2 * length (restHits (patternsOf set) text first) ≡ 2 * length (restHits (patternsOf set) text 0))
     × (sets out to (hitWords (restHits (patternsOf set) text first)) ≡ sets out₀ 0 (hitWords (restHits (patternsOf set) text 0)))
@@ -79,7 +79,7 @@ loop-again c =
       omega (arith, L .inv .0),
       ap length (w .6 ∙ e .1) ∙ length-sets (L .out) (L .to) (hitWords xs) ∙ L .inv .1,
       omega (arith, w .7, e .0, L .inv .2),
-      words-step xs (restHits ps (a .text .now) (first + 32)) (restHits ps (a .text .now) first) (L .out) (c .if1 .out) (hitWords xs) (L .to) (c .if1 .to)
+      words-step xs (restHits ps (a .text .now) (first + 64)) (restHits ps (a .text .now) first) (L .out) (c .if1 .out) (hitWords xs) (L .to) (c .if1 .to)
           (block-step-to ps (a .text .now) first (w .1 .result) lt (w .1 .ensures)) refl (w .6 ∙ e .1) (w .7 ∙ e .0)
           ∙ L .inv .3,
     ))

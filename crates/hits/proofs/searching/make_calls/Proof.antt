@@ -1,17 +1,16 @@
--- `make_calls` is safe and ends. The number of turns is bounded, so the loop ends whatever the calls tell.
-use mathlib.Core.Path.{_≡_}
-use Prim.Native.Nat.{_-_, _≤_}
-use lib.ListN.{length}
+-- `make_calls` is safe and ends.
 use borrow.Author.Needs.{needs}
+use Prim.Native.Nat.{_≤_, _-_}
+use mathlib.Core.Path.{_≡_}
+use lib.ListN.{length}
 use Rattle.hits.proofs.searching.make_calls.Statement.{statement}
 use Rattle.hits.proofs.searching.make_calls.Tie as tie
 
 abbrev Inv-loop : tie.InvT-loop
-Inv-loop set k automaton text hits₀ out₀ state₀ attempts₀ turns₀ hits out state attempts turns =
-    (turns ≤ 40000) × (length hits ≡ length hits₀) × (length out ≡ length out₀)
+Inv-loop set automaton text hits₀ out₀ state₀ attempts₀ turns₀ hits out state attempts turns = (turns ≤ 40000) × (length hits ≡ length hits₀) × (length out ≡ length out₀)
 
 abbrev μ-loop : tie.MeasureT-loop
-μ-loop set k automaton text hits₀ out₀ state₀ attempts₀ turns₀ hits out state attempts turns = 40000 - turns
+μ-loop set automaton text hits₀ out₀ state₀ attempts₀ turns₀ hits out state attempts turns = 40000 - turns
 
 new-requires : tie.Need-new-requires Inv-loop μ-loop
 new-requires c κs = search needs
@@ -40,6 +39,12 @@ part-make-call-end c = search needs
 make-call-requires : tie.Need-make-call-requires Inv-loop μ-loop
 make-call-requires c κs = search needs
 
+wrapping-add-u64-requires : tie.Need-wrapping-add-u64-requires Inv-loop μ-loop
+wrapping-add-u64-requires c κs = search needs
+
+print-told-requires : tie.Need-print-told-requires Inv-loop μ-loop
+print-told-requires c κs = search needs
+
 same-length : tie.Need-same-length Inv-loop μ-loop
 same-length c = search needs
 
@@ -48,21 +53,6 @@ same-length-2 c = search needs
 
 returns : tie.Need-returns Inv-loop μ-loop
 returns c = search needs
-
-wrapping-add-u64-requires : tie.Need-wrapping-add-u64-requires Inv-loop μ-loop
-wrapping-add-u64-requires c κs = search needs
-
-print-attempts-requires : tie.Need-print-attempts-requires Inv-loop μ-loop
-print-attempts-requires c κs = search needs
-
-same-length-3 : tie.Need-same-length-3 Inv-loop μ-loop
-same-length-3 c = search needs
-
-same-length-4 : tie.Need-same-length-4 Inv-loop μ-loop
-same-length-4 c = search needs
-
-returns-2 : tie.Need-returns-2 Inv-loop μ-loop
-returns-2 c = search needs
 
 add-turns : tie.Need-add-turns Inv-loop μ-loop
 add-turns c = search needs
@@ -73,14 +63,14 @@ loop-less c = search needs
 loop-again : tie.Need-loop-again Inv-loop μ-loop
 loop-again c = search needs
 
-same-length-5 : tie.Need-same-length-5 Inv-loop μ-loop
-same-length-5 c = search needs
+same-length-3 : tie.Need-same-length-3 Inv-loop μ-loop
+same-length-3 c = search needs
 
-same-length-6 : tie.Need-same-length-6 Inv-loop μ-loop
-same-length-6 c = search needs
+same-length-4 : tie.Need-same-length-4 Inv-loop μ-loop
+same-length-4 c = search needs
 
-returns-3 : tie.Need-returns-3 Inv-loop μ-loop
-returns-3 c = search needs
+returns-2 : tie.Need-returns-2 Inv-loop μ-loop
+returns-2 c = search needs
 
 pub make-calls-spec : {M : Type 1} → statement M
 make-calls-spec =
@@ -97,17 +87,14 @@ make-calls-spec =
     part-make-call-start
     part-make-call-end
     make-call-requires
+    wrapping-add-u64-requires
+    print-told-requires
     same-length
     same-length-2
     returns
-    wrapping-add-u64-requires
-    print-attempts-requires
-    same-length-3
-    same-length-4
-    returns-2
     add-turns
     loop-less
     loop-again
-    same-length-5
-    same-length-6
-    returns-3)
+    same-length-3
+    same-length-4
+    returns-2)

@@ -2,7 +2,7 @@
 use Prim.Native.Nat.{_+_, _-_}
 use mathlib.Core.Path.{refl}
 use lib.ListN.{length}
-use Rattle.cartesian.specs.Distances.{distances}
+use Rattle.cartesian.specs.Cartesian.{distances}
 use Rattle.cartesian.proofs.Seek.{length-distances}
 use Rattle.set_arrays.proofs.Laws.{append-part}
 use borrow.Author.Needs.{needs}

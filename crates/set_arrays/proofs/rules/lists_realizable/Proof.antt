@@ -3,7 +3,7 @@ use Prim.Native.Nat.{_≤_, _-_, _+_}
 use mathlib.Core.Path.{_≡_, refl, sym, ap, _∙_}
 use mathlib.Core.Bool.{true}
 use lib.ListN.{getD}
-use Rattle.realization.specs.Realizable.{realizable}
+use Rattle.realization.specs.Realization.{realizable}
 use Rattle.pattern_set.specs.PatternSet.{patternIn}
 use Rattle.set_arrays.specs.Rules.{listsRealizable}
 use Rattle.set_arrays.proofs.Each.{each-none, each-more, each-fails}

@@ -1,0 +1,39 @@
+-- `places_case` is safe and ends.
+use native.Mathlib.Omega.{arith}
+use lib.ListN.{length-take}
+use borrow.Author.Needs.{needs}
+use Rattle.cases_hits.proofs.reading.places_case.Statement.{statement}
+use Rattle.cases_hits.proofs.reading.places_case.Tie as tie
+
+same-words-requires : tie.Need-same-words-requires
+same-words-requires c κs = search needs
+
+last-requires : tie.Need-last-requires
+last-requires c κs = search needs
+
+small-requires : tie.Need-small-requires
+small-requires c κs = search needs
+
+slice-aggregate-values-case : tie.Need-slice-aggregate-values-case
+slice-aggregate-values-case c = simp length-take (omega arith)
+
+values-case-requires : tie.Need-values-case-requires
+values-case-requires c κs = search needs
+
+returns : tie.Need-returns
+returns c = search needs
+
+returns-2 : tie.Need-returns-2
+returns-2 c = search needs
+
+pub places-case-spec : {M : Type 1} → statement M
+places-case-spec =
+    tie.close
+    (tie.spec
+    same-words-requires
+    last-requires
+    small-requires
+    slice-aggregate-values-case
+    values-case-requires
+    returns
+    returns-2)

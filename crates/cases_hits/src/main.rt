@@ -1,0 +1,57 @@
+// Runs the inputs of the program `hits` that standard input tells through the library code of that program, and counts those that give something else than
+// the input says: what is read, the number of the refusal, and the text of the hits over several calls. The input is made by tests/inputs.py, which computes
+// what is expected in its own way.
+//
+// All numbers are decimal. A case is
+//   the number of pieces, and each piece: how often it stands, how many bytes it has, a space, the bytes; or 1, 0 and the number of one byte
+//   the words of the hit array
+//   0 for a bad input; else 1, the number of patterns, where each ends, their values, the number of the text's values, those, and the number of the refusal
+//   behind a refusal of 0 the number of bytes of what is printed, a newline, these bytes
+// Values are told in runs: length of the run, value.
+mod inputs;
+mod reading;
+mod searching;
+
+use case_input::Outcome;
+use test_inputs::tally;
+
+// The case that starts at a place of the input; the bytes are put to the lent array.
+fn case(s: &[u8], pieces: u64, at: usize, bytes: &mut [u8]) -> Outcome {
+    let filled = inputs::expand(s, at, pieces, bytes);
+    let n = case_input::small(filled.to as u64, bytes.len());
+    let room = case_input::number(s, filled.at);
+    reading::input_case(s, room.at, case_input::small(room.size, 8192), &bytes[..n])
+}
+
+fn case_in(s: &[u8], pieces: u64, at: usize) -> Outcome {
+    let mut bytes = [0u8; 65600];
+    case(s, pieces, at, &mut bytes)
+}
+
+// Runs the cases from the start of the input, and prints how many there are and how many of them failed.
+fn run(s: &[u8]) {
+    let mut at: usize = 0;
+    let mut t = tally::none();
+    let mut turns: u32 = 0;
+    while turns < 100000 {
+        let pieces = case_input::number(s, at);
+        if pieces.size == 0 {
+            break;
+        }
+        let outcome = case_in(s, pieces.size, pieces.at);
+        at = outcome.at;
+        t = tally::count(t, outcome.good);
+        turns += 1;
+    }
+    io::print_decimal(1, t.cases);
+    io::write_all(1, b" inputs, ");
+    io::print_decimal(1, t.failed);
+    io::write_all(1, b" failed\n");
+}
+
+// Runs the cases of standard input.
+fn main() {
+    let mut buf = [0u8; 327680];
+    let n = io::read_full(0, &mut buf);
+    run(&buf[..n]);
+}

@@ -1,0 +1,27 @@
+-- The list is made from what the first pass leaves behind.
+use Prim.Native.Nat.{ℕ}
+use borrow.Author.Needs.{needs}
+use lib.ListN.{length-replicate}
+use Rattle.filter_search.proofs.two_passes.Statement.{statement}
+use Rattle.filter_search.proofs.two_passes.Tie as tie
+
+first-pass-requires : tie.Need-first-pass-requires
+first-pass-requires c κs =
+    let s = c .before .before .before .before in
+    (s .pre .0, ((s .pre .1 .0, length-replicate {A = ℕ} 256 0), s .pre .1 .1))
+
+list-hits-requires : tie.Need-list-hits-requires
+list-hits-requires c κs =
+    let s = c .before .before .before .before .before .before .before in
+    let e = c .before .before .first-pass .ensures in
+    (s .pre .0, ((s .pre .1 .0, e .0, e .1 .0), (e .1 .1, s .pre .1 .1)))
+
+same-length : tie.Need-same-length
+same-length c = search needs
+
+returns : tie.Need-returns
+returns c = c .before .before .list-hits .ensures
+
+pub two-passes-spec : {M : Type 1} → statement M
+two-passes-spec =
+    tie.close (tie.spec first-pass-requires list-hits-requires same-length returns)

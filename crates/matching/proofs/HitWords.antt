@@ -1,0 +1,17 @@
+-- The words of a list of hits: two a hit, and of lists one after the other the words one after the other.
+use mathlib.Core.Path.{_≡_, refl, ap}
+use mathlib.Core.List.{List, [], _∷_, _++_}
+use Prim.Native.Nat.{ℕ, _*_}
+use native.Mathlib.Omega.{arith}
+use lib.ListN.{length}
+use Rattle.matching.specs.Matching.{hitWords}
+
+pub length-hitWords : (hs : List (ℕ × ℕ)) → length (hitWords hs) ≡ 2 * length hs
+unfolding hitWords
+length-hitWords [] = refl
+length-hitWords (h ∷ hs) = omega (arith, length-hitWords hs)
+
+pub hitWords-append : (hs gs : List (ℕ × ℕ)) → hitWords (hs ++ gs) ≡ hitWords hs ++ hitWords gs
+unfolding hitWords
+hitWords-append [] gs = refl
+hitWords-append (h ∷ hs) gs = ap (λ (l : List ℕ). h .0 ∷ h .1 ∷ l) (hitWords-append hs gs)

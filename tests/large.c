@@ -1,0 +1,272 @@
+/* Sizes that no test program of the gate holds, tried through the C interface: texts of 1,048,576 values, full sets, and arrays
+ * that are far longer than what is written to them. Hits of both searches are compared with a plain listing, window by window.
+ * Prints how many checks there were and how many of them went wrong. */
+#include <stdio.h>
+#include <stdlib.h>
+#include <string.h>
+
+#include "finder.h"
+
+#define LONGEST 1048576u
+#define BEFORE 4000000007u
+
+static unsigned checks, wrong;
+
+static void check(int good, const char *name)
+{
+    checks++;
+    if (!good) {
+        wrong++;
+        printf("WRONG: %s\n", name);
+    }
+}
+
+/* ---- inputs, from a seed */
+
+static uint64_t seed = 20261115;
+
+static uint32_t any(uint32_t most)
+{
+    seed = seed * 6364136223846793005u + 1442695040888963407u;
+    return (uint32_t)(seed >> 33) % (most + 1);
+}
+
+static void fill(uint32_t *words, size_t n)
+{
+    for (size_t i = 0; i < n; i++)
+        words[i] = BEFORE;
+}
+
+/* The first place from one on that does not hold what the array held before. */
+static size_t held(const uint32_t *words, size_t from, size_t n)
+{
+    while (from < n && words[from] == BEFORE)
+        from++;
+    return from;
+}
+
+/* Values with many ties, the lowest and the highest value among them. */
+static void fill_values(int32_t *values, size_t n)
+{
+    for (size_t i = 0; i < n; i++) {
+        uint32_t x = any(40);
+        values[i] = x == 0 ? INT32_MIN : x == 1 ? INT32_MAX : (int32_t)(x % 7) - 3;
+    }
+}
+
+/* ---- the plain listing */
+
+static uint32_t distance(const int32_t *window, size_t i)
+{
+    for (size_t j = i; j-- > 0;)
+        if (window[j] <= window[i])
+            return (uint32_t)(i - j);
+    return 0;
+}
+
+static int has_distances(const int32_t *window, const uint32_t *distances, size_t n)
+{
+    for (size_t i = 0; i < n; i++)
+        if (distance(window, i) != distances[i])
+            return 0;
+    return 1;
+}
+
+/* The hits of a good set: by place, longer pattern first, then lower number; how many they are. */
+static size_t list_plainly(const uint32_t *set, const int32_t *text, size_t n, uint32_t *out)
+{
+    uint32_t k = set[0];
+    size_t count = 0;
+    for (size_t i = 0; i < n; i++)
+        for (uint32_t m = 256; m > 0; m--)
+            for (uint32_t j = 0; j < k; j++)
+                if (set[3 + j] - set[2 + j] == m && m <= i + 1 && has_distances(text + (i + 1 - m), set + 3 + k + set[2 + j], m)) {
+                    out[2 * count] = (uint32_t)i;
+                    out[2 * count + 1] = j;
+                    count++;
+                }
+    return count;
+}
+
+/* ---- runs */
+
+static FinderState after(const uint32_t *set, size_t set_words, const uint32_t *automaton, size_t automaton_words, const int32_t *text,
+                         size_t n, size_t room, uint32_t *out, size_t *count, int *good)
+{
+    FinderState state = finder_new_search();
+    uint32_t *hits = malloc(room * sizeof *hits);
+    *count = 0;
+    *good = 1;
+    while (*good) {
+        fill(hits, room);
+        FinderStreamed s = finder_stream_search(set, set_words, automaton, automaton_words, state, text + state.taken, n - state.taken, hits, room);
+        if (s.refusal != 0 || s.state.taken != state.taken + s.taken || held(hits, 2 * s.hits, room) != room)
+            *good = 0;
+        if (!s.ended && s.taken == 0)
+            *good = 0;
+        memcpy(out + 2 * *count, hits, 2 * s.hits * sizeof *hits);
+        *count += s.hits;
+        state = s.state;
+        if (s.ended)
+            break;
+    }
+    if (state.taken != n)
+        *good = 0;
+    free(hits);
+    return state;
+}
+
+static int same_state(const FinderState *a, const FinderState *b)
+{
+    return a->taken == b->taken && a->node == b->node && a->minima == b->minima && a->first == b->first
+        && memcmp(a->places, b->places, sizeof a->places) == 0 && memcmp(a->values, b->values, sizeof a->values) == 0;
+}
+
+/* A call with so many values is refused by the number, with nothing counted, the state as it was and no word written. */
+static int refuses(const uint32_t *set, size_t set_words, const uint32_t *automaton, size_t automaton_words, FinderState state,
+                   const int32_t *values, size_t n, uint32_t *hits, size_t room, uint32_t number)
+{
+    fill(hits, room);
+    FinderStreamed s = finder_stream_search(set, set_words, automaton, automaton_words, state, values, n, hits, room);
+    return s.refusal == number && s.ended == 0 && s.taken == 0 && s.hits == 0 && s.attempts == 0 && same_state(&s.state, &state)
+        && held(hits, 0, room) == room;
+}
+
+static int filter_refuses(const uint32_t *set, size_t set_words, const int32_t *text, size_t n, uint32_t *out, size_t lent, size_t room,
+                          uint32_t number)
+{
+    fill(out, room);
+    FinderCounts f = finder_filter_search(set, set_words, text, n, out, lent);
+    return f.refusal == number && f.first == 0 && f.second == 0 && held(out, 0, room) == room;
+}
+
+static void whole_text(void)
+{
+    static const int32_t patterns[3][4] = {{1, 3, 2, 2}, {2, 1, 2, 0}, {5, 5, 0, 0}};
+    static const size_t lengths[3] = {4, 3, 2};
+    enum { SET = 64, AUTOMATON = 4096 };
+    size_t room = 4u * LONGEST, count, listed;
+    uint32_t set[SET], automaton[AUTOMATON];
+    int32_t *text = malloc((LONGEST + 1) * sizeof *text);
+    uint32_t *plain = malloc(room * sizeof *plain), *run = malloc(room * sizeof *run), *out = malloc(room * sizeof *out);
+    int good;
+
+    fill(set, SET);
+    fill(automaton, AUTOMATON);
+    fill_values(text, LONGEST + 1);
+    finder_empty_set(set, SET);
+    for (size_t j = 0; j < 3; j++)
+        finder_add_pattern(set, SET, patterns[j], lengths[j]);
+    check(held(set, 3 + 3 + 9, SET) == SET, "words behind a set keep their values");
+    FinderCounts built = finder_build_automaton(set, SET, automaton, AUTOMATON);
+    check(built.refusal == 0 && held(automaton, built.second, AUTOMATON) == AUTOMATON, "words behind an automaton keep their values");
+
+    listed = list_plainly(set, text, LONGEST, plain);
+    check(listed > 100000 && 2 * listed + 8 <= room, "the plain listing has many hits, and room");
+    FinderState last = after(set, SET, automaton, AUTOMATON, text, LONGEST, 6, run, &count, &good);
+    check(good, "1,048,576 values in calls over a hit array of 2 words a pattern");
+    check(count == listed && memcmp(run, plain, 2 * listed * sizeof *plain) == 0, "their hits are the plain listing");
+    check(last.taken == LONGEST, "all values are taken");
+
+    fill(out, room);
+    FinderCounts f = finder_filter_search(set, SET, text, LONGEST, out, room);
+    check(f.refusal == 0 && f.first == listed && f.second >= listed, "a filter search answers 1,048,576 values");
+    check(memcmp(out, plain, 2 * listed * sizeof *plain) == 0, "its hits are the plain listing");
+    check(held(out, 2 * listed, room) == room, "words behind its hits keep their values");
+    fill(out, room);
+    f = finder_filter_search(set, SET, text, LONGEST, out, 2 * listed);
+    check(f.refusal == 0 && memcmp(out, plain, 2 * listed * sizeof *plain) == 0, "it answers in an array of exactly its hits");
+    check(held(out, 2 * listed, room) == room, "and writes nothing behind it");
+    check(filter_refuses(set, SET, text, LONGEST, out, 2 * listed - 1, room, 11), "an array one word too short is 11");
+    check(filter_refuses(set, SET, text, LONGEST, out, 0, room, 11), "an array of no words is 11");
+    check(filter_refuses(set, SET, text, LONGEST + 1, out, room, room, 9), "1,048,577 values are 9");
+    check(filter_refuses(set, SET, text, LONGEST + 1, out, 0, room, 9), "and 9 before 11");
+
+    check(refuses(set, SET, automaton, AUTOMATON, finder_new_search(), text, LONGEST + 1, out, 64, 9), "1,048,577 values in a first call are 9");
+    FinderState part = after(set, SET, automaton, AUTOMATON, text, 1000000, 4096, run, &count, &good);
+    check(good && memcmp(run, plain, 2 * count * sizeof *plain) == 0, "1,000,000 values in calls over a longer hit array");
+    check(refuses(set, SET, automaton, AUTOMATON, part, text, LONGEST - 1000000 + 1, out, 64, 9), "9 counts from the values taken");
+    check(refuses(set, SET, automaton, AUTOMATON, part, text, LONGEST, out, 64, 9), "9 counts all values handed over");
+    fill(out, room);
+    FinderStreamed s = finder_stream_search(set, SET, automaton, AUTOMATON, part, text + 1000000, LONGEST - 1000000, out, room);
+    check(s.refusal == 0 && s.ended == 1 && s.taken == LONGEST - 1000000 && count + s.hits == listed, "as many values as are left are taken");
+    check(memcmp(out, plain + 2 * count, 2 * s.hits * sizeof *out) == 0 && held(out, 2 * s.hits, room) == room, "their hits are the plain listing's rest");
+    check(same_state(&s.state, &last), "and the state is that after other calls");
+
+    fill(out, 6);
+    s = finder_stream_search(set, SET, automaton, AUTOMATON, last, text, 0, out, 6);
+    check(s.refusal == 0 && s.ended == 1 && s.taken == 0 && s.hits == 0 && s.attempts == 0 && same_state(&s.state, &last) && held(out, 0, 6) == 6,
+          "with 1,048,576 values taken a call with none ends");
+    check(refuses(set, SET, automaton, AUTOMATON, last, text, 1, out, 6, 9), "and one value more is 9");
+    check(refuses(set, SET, automaton, AUTOMATON, last, text, 0, out, 5, 10), "a hit array one word too short is 10");
+    FinderState over = last;
+    over.taken = LONGEST + 1;
+    check(refuses(set, SET, automaton, AUTOMATON, over, text, 0, out, 6, 8), "a state with 1,048,577 values taken is 8");
+    free(text);
+    free(plain);
+    free(run);
+    free(out);
+}
+
+static void full_set(void)
+{
+    enum { USED = 3 + 64 + 4096, SET = 3 * USED, AUTOMATON = 8 * 16 * 4097, TEXT = 20000, ROOM = 8 * 64 * TEXT };
+    uint32_t *set = malloc(SET * sizeof *set), *automaton = malloc(AUTOMATON * sizeof *automaton);
+    uint32_t *plain = malloc(ROOM * sizeof *plain), *run = malloc(ROOM * sizeof *run), *out = malloc(ROOM * sizeof *out);
+    int32_t *text = malloc(TEXT * sizeof *text), values[64];
+    size_t count, listed;
+    int good, added = 1;
+
+    fill(set, SET);
+    fill(automaton, AUTOMATON);
+    fill_values(text, TEXT);
+    finder_empty_set(set, SET);
+    for (size_t j = 0; j < 64; j++) {
+        /* windows of the text, and rising values, so that there are hits */
+        for (size_t i = 0; i < 64; i++)
+            values[i] = j % 8 == 7 ? (int32_t)(i / (j + 1)) : text[j * 256 + i];
+        FinderCounts a = finder_add_pattern(set, SET, values, 64);
+        added = added && a.refusal == 0 && a.first == j + 1 && a.second == 64 * (j + 1);
+    }
+    for (size_t i = 0; i < 600; i++)
+        text[TEXT - 600 + i] = (int32_t)(i / 30);
+    check(added, "64 patterns of 64 values are added");
+    check(held(set, USED, SET) == SET, "words behind the full set keep their values");
+    FinderCounts c = finder_check_set(set, SET);
+    check(c.refusal == 0 && c.first == 64 && c.second == 4096, "the full set has 64 patterns and 4,096 distances");
+    memcpy(run, set, SET * sizeof *set);
+    c = finder_add_pattern(set, SET, values, 1);
+    check(c.refusal == 6 && c.first == 0 && c.second == 0 && memcmp(run, set, SET * sizeof *set) == 0, "one pattern more is 6, and the set as it was");
+
+    c = finder_build_automaton(set, USED, automaton, 16 * 4097 - 1);
+    check(c.refusal == 10 && c.first == 0 && c.second == 0 && held(automaton, 0, AUTOMATON) == AUTOMATON, "an automaton array one word too short is 10");
+    c = finder_build_automaton(set, USED, automaton, AUTOMATON);
+    check(c.refusal == 0 && c.first > 64 && c.first <= 4097 && c.second == 2 * 64 + 1 + 8 * c.first, "the automaton of the full set is built");
+    check(held(automaton, c.second, AUTOMATON) == AUTOMATON, "words behind it keep their values");
+
+    listed = list_plainly(set, text, TEXT, plain);
+    check(listed >= 56 && 2 * listed <= ROOM, "the plain listing has hits of the windows");
+    after(set, USED, automaton, c.second, text, TEXT, 128, run, &count, &good);
+    check(good && count == listed && memcmp(run, plain, 2 * listed * sizeof *plain) == 0, "a stream search over the full set gives the plain listing");
+    fill(out, ROOM);
+    FinderCounts f = finder_filter_search(set, SET, text, TEXT, out, ROOM);
+    check(f.refusal == 0 && f.first == listed && memcmp(out, plain, 2 * listed * sizeof *plain) == 0, "and so does a filter search");
+    check(held(out, 2 * listed, ROOM) == ROOM, "words behind its hits keep their values");
+    check(filter_refuses(set, USED, text, TEXT, out, 2 * listed - 1, ROOM, 11), "one word less is 11");
+    check(refuses(set, USED, automaton, c.second, finder_new_search(), text, TEXT, out, 127, 10), "a hit array of 127 words is 10");
+    check(refuses(set, USED, automaton, c.second - 1, finder_new_search(), text, TEXT, out, 128, 7), "an automaton without its last word is 7");
+    free(set);
+    free(automaton);
+    free(plain);
+    free(run);
+    free(out);
+    free(text);
+}
+
+int main(void)
+{
+    whole_text();
+    full_set();
+    printf("%u checks, %u wrong\n", checks, wrong);
+    return wrong != 0;
+}
