@@ -56,7 +56,7 @@ fn prints(
         let s = calls::make_call(set, automaton, state, &text[from..], hits, out);
         at = pass(want, at, &out[..s.bytes]);
         attempts = std::num::wrapping_add_u64(attempts, s.attempts);
-        let good = s.written && s.refused == 0;
+        let good = s.refused == 0;
         let go = good && s.more;
         if !go {
             return good && ends_with(want, at, attempts);

@@ -9,7 +9,6 @@ use hits_calls::preparing;
 // Prints what a call told, behind the header where it is the first one, and the attempts of all calls behind the last; is more to be printed.
 fn print_told(
     refused: u32,
-    written: bool,
     first: bool,
     more: bool,
     attempts: u64,
@@ -29,7 +28,7 @@ fn print_told(
     if !more {
         printing::print_attempts(attempts);
     }
-    done && written && more
+    done && more
 }
 
 // Calls until the values end, of which each call takes at least one.
@@ -41,15 +40,7 @@ fn make_calls(set: &[u32], automaton: &[u32], text: &[i32], hits: &mut [u32], ou
         let from = preparing::smaller(preparing::wide(state.taken), text.len());
         let s = calls::make_call(set, automaton, state, &text[from..], hits, out);
         attempts = std::num::wrapping_add_u64(attempts, s.attempts);
-        if !print_told(
-            s.refused,
-            s.written,
-            turns == 0,
-            s.more,
-            attempts,
-            out,
-            s.bytes,
-        ) {
+        if !print_told(s.refused, turns == 0, s.more, attempts, out, s.bytes) {
             return;
         }
         state = s.state;

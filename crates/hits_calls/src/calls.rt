@@ -1,13 +1,12 @@
 // One call of the stream search, and the text of its hits.
 ghost use mathlib.Core.Path.{_≡_};
-ghost use mathlib.Core.Bool.{true};
-ghost use Prim.Native.Nat.{ℕ, _+_, _*_, _≤_, _<_};
-ghost use lib.ListN.{length, getD};
-ghost use Rattle.set_access.specs.Patterns.{patternsOf, Good};
+ghost use Prim.Native.Nat.{_≤_};
+ghost use lib.ListN.{length};
+ghost use Rattle.answers.specs.Told.{toldStreamed};
+ghost use Rattle.hits_calls.specs.Called.{summed, summary, IsCalled};
 use crate::preparing;
 use answers::Counts;
 use answers::SearchState;
-use answers::SetSize;
 use answers::StreamAnswer;
 
 // The answer of a call: the number of its refusal or 0, whether values are left, and its counts.
@@ -18,25 +17,19 @@ struct Told {
     attempts: u64,
 }
 
-// What a call leaves: the state, the number of its refusal or 0, whether values are left, its attempts, whether its hits have a text, and the bytes of that.
+// What a call leaves: the state, the number of its refusal or 0, whether values are left, its hits and attempts, and the bytes of the text of the hits.
 pub struct Step {
     pub state: SearchState,
     pub refused: u32,
     pub more: bool,
+    pub hits: usize,
     pub attempts: u64,
-    pub written: bool,
     pub bytes: usize,
-}
-
-// The text of hits: whether there is one, and how many bytes it has.
-struct Text {
-    written: bool,
-    bytes: usize,
 }
 
 // The counts of a call that was accepted.
 fn counted(c: Counts, more: bool) -> Told
-    ensures { λ r. ⌜ r .refused ≤ 11 ⌝ }
+    ensures { λ r. ⌜ summed (r .refused) (r .more) (r .hits) (r .attempts) ≡ summed 0 more (c .hits) (c .attempts) ⌝ }
 {
     Told {
         refused: 0,
@@ -48,13 +41,13 @@ fn counted(c: Counts, more: bool) -> Told
 
 // What the answer of a call tells.
 fn tell(a: StreamAnswer) -> Told
-    ensures { λ r. ⌜ r .refused ≤ 11 ⌝ }
+    ensures { λ r. ⌜ summed (r .refused) (r .more) (r .hits) (r .attempts) ≡ summary (toldStreamed a) ⌝ }
 {
     match a {
         StreamAnswer::Ended(c) => counted(c, false),
         StreamAnswer::Full(c) => counted(c, true),
         StreamAnswer::Refused(r) => Told {
-            refused: preparing::number_of(r),
+            refused: answers::refusal_number(r),
             more: false,
             hits: 0,
             attempts: 0,
@@ -62,63 +55,7 @@ fn tell(a: StreamAnswer) -> Told
     }
 }
 
-// Are the first `count` hits of patterns that there are.
-fn numbers_below(hits: &[u32], count: usize, k: usize) -> bool
-    requires { ⌜ 2 * count ≤ length (now hits) ⌝ }
-    ensures { λ r. ⌜ (r ≡ true → (i : ℕ) → i < count → getD (now (hits .entry)) (2 * i + 1) 0 < k) ⌝ }
-{
-    let mut i = 0;
-    while i < count {
-        if preparing::wide(hits[2 * i + 1]) >= k {
-            return false;
-        }
-        i += 1;
-    }
-    true
-}
-
-// No text.
-fn nothing() -> Text
-    ensures { λ r. ⌜ r .bytes ≡ 0 ⌝ }
-{
-    Text {
-        written: false,
-        bytes: 0,
-    }
-}
-
-// The lines of the first `count` hits, made at the front of the lent buffer.
-fn write_hits(set: &[u32], k: usize, hits: &[u32], count: usize, out: &mut [u8]) -> Text
-    requires { ⌜ Good (now set) × (k ≡ length (patternsOf (now set))) ⌝ }
-    ensures { λ r. ⌜ r .bytes ≤ length (now (out .exit)) ⌝ }
-{
-    if count > hits.len() / 2 {
-        return nothing();
-    }
-    if count > out.len() / 63 {
-        return nothing();
-    }
-    if !numbers_below(hits, count, k) {
-        return nothing();
-    }
-    let n = hits_output::write_lines(set, hits, count, out);
-    Text {
-        written: true,
-        bytes: n,
-    }
-}
-
-// The same of a set array; the check tells the number of patterns.
-fn write_text(set: &[u32], hits: &[u32], count: usize, out: &mut [u8]) -> Text
-    ensures { λ r. ⌜ r .bytes ≤ length (now (out .exit)) ⌝ }
-{
-    match finder::check_set(set) {
-        SetSize::Holds(k, _) => write_hits(set, k, hits, count, out),
-        SetSize::Refused(_) => nothing(),
-    }
-}
-
-// One call, and the lines of its hits at the front of the lent buffer.
+// One call, and the lines of its hits at the front of the lent buffer. Of the hit array the search gets as much as the buffer has lines for.
 pub fn make_call(
     set: &[u32],
     automaton: &[u32],
@@ -127,19 +64,24 @@ pub fn make_call(
     hits: &mut [u32],
     out: &mut [u8],
 ) -> Step
-    ensures { λ r. ⌜ (r .refused ≤ 11) × (r .bytes ≤ length (now (out .exit))) ⌝ }
+    ensures { λ r. ⌜ IsCalled (now (set .entry)) (now (automaton .entry)) state (now (values .entry)) (now (hits .entry)) (now (out .entry)) (now (hits .exit)) (now (out .exit)) r ⌝ }
+    ensures { λ r. ⌜ r .bytes ≤ length (now (out .exit)) ⌝ }
 {
-    let s = finder::stream_search(set, automaton, state, values, hits);
+    let room = preparing::smaller(hits.len(), 2 * (out.len() / 63));
+    let s = finder::stream_search(set, automaton, state, values, &mut hits[..room]);
     let next = s.state;
     let answer = s.answer;
     let t = tell(answer);
-    let text = write_text(set, hits, t.hits, out);
+    let mut bytes: usize = 0;
+    if t.refused == 0 {
+        bytes = hits_output::write_lines(set, hits, t.hits, out);
+    }
     Step {
         state: next,
         refused: t.refused,
         more: t.more,
+        hits: t.hits,
         attempts: t.attempts,
-        written: text.written,
-        bytes: text.bytes,
+        bytes,
     }
 }

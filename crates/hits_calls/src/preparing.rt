@@ -1,6 +1,6 @@
 // The set of the patterns and its automaton, made by the finder's entries in lent arrays. A refusal is told by its number, and 0 is none.
 ghost use mathlib.Core.Path.{_≡_};
-ghost use Prim.Native.Nat.{_≤_};
+ghost use Prim.Native.Nat.{min, _≤_};
 use answers::Built;
 use answers::Refusal;
 use answers::SetSize;
@@ -15,13 +15,13 @@ pub fn wide(x: u32) -> usize
 
 // The smaller of two.
 pub fn smaller(a: usize, b: usize) -> usize
-    ensures { λ r. ⌜ (r ≤ a) × (r ≤ b) ⌝ }
+    ensures { λ r. ⌜ (r ≡ min a b) × (r ≤ a) × (r ≤ b) ⌝ }
 {
     if a < b { a } else { b }
 }
 
 // The number of a refusal, of which there are eleven.
-pub(crate) fn number_of(r: Refusal) -> u32
+fn number_of(r: Refusal) -> u32
     ensures { λ n. ⌜ n ≤ 11 ⌝ }
 {
     answers::refusal_number(r)

@@ -1,0 +1,35 @@
+-- What one call of the program tells, and what it leaves in the arrays.
+use Rattle.lists.specs.Prelude.{_≡_, Bool, _&&_, List, [], _++_, ℕ, min, _*_, _/_, eqb, ℤ, length, take, drop}
+use Rattle.answers.specs.declared.SearchState.{SearchState}
+use Rattle.pattern_set.specs.PatternSet.{readSet}
+use Rattle.model.specs.Refusals.{firstMet, unless, told, after}
+use Rattle.model.specs.Entries.{setOf, Counts, streamConditions, streamCall, streamEntry, streamState}
+use Rattle.hits_output.specs.Output.{hitLines}
+use Rattle.hits_calls.specs.declared.calls.Step.{Step}
+
+-- the front of the hit array that is lent to the search: a line has at most 63 bytes, and the text of all hits fits the buffer
+abbrev pub lent : List ℕ → List ℕ → List ℕ
+lent hits out = take (min (length hits) (2 * (length out / 63))) hits
+
+-- what the call tells
+abbrev pub tells : List ℕ → List ℕ → SearchState → List ℤ → List ℕ → ℕ × Counts
+tells ws automaton st xs hits = told (0, 0, 0, 0) (streamEntry ws automaton st xs hits)
+
+-- the text of the call's hits; none where it is refused
+abbrev pub batch : List ℕ → List ℕ → SearchState → List ℤ → List ℕ → List ℕ
+batch ws automaton st xs hits = unless (firstMet (streamConditions ws automaton st xs hits)) (hitLines (setOf (readSet ws)) (streamCall ws st xs hits .hits)) []
+
+-- a refusal, whether values are left, hits and attempts
+abbrev pub summed : ℕ → Bool → ℕ → ℕ → ℕ × (Bool × ℕ × ℕ)
+summed refused more hits attempts = (refused, (more, hits, attempts))
+
+-- of what a call tells; values are left where it is accepted and full
+abbrev pub summary : ℕ × Counts → ℕ × (Bool × ℕ × ℕ)
+summary t = summed (t .0) (eqb (t .0) 0 && eqb (t .1 .0) 0) (t .1 .2) (t .1 .3)
+
+pub record IsCalled (ws automaton : List ℕ) (st : SearchState) (xs : List ℤ) (hits out hitsAfter outAfter : List ℕ) (r : Step) : Type 0 where
+  pub told : summed (r .refused) (r .more) (r .hits) (r .attempts) ≡ summary (tells ws automaton st xs (lent hits out))
+  pub state : r .state ≡ streamState ws automaton st xs (lent hits out)
+  pub words : hitsAfter ≡ after (streamEntry ws automaton st xs (lent hits out)) (lent hits out) ++ drop (length (lent hits out)) hits
+  pub bytes : r .bytes ≡ length (batch ws automaton st xs (lent hits out))
+  pub text : outAfter ≡ batch ws automaton st xs (lent hits out) ++ drop (length (batch ws automaton st xs (lent hits out))) out
