@@ -45,7 +45,7 @@ pub dist-some : (s : List ℤ) (i k : ℕ) → k ≡ seek s (getD s i (pos 0)) i
 unfolding distanceAt
 dist-some s i k e z = gap-some i k z ∙ ap (gap i) e
 
--- ---- a window: the readings from a on
+-- ---- a window: the values from a on
 
 -- one more than the place in the whole, of one more than the place in the window; q where the window has none
 abbrev inWhole : ℕ → ℕ → ℕ → ℕ

@@ -18,7 +18,7 @@ abbrev pub orElse : ℕ → ℕ → ℕ
 orElse zero b = b
 orElse (suc a) b = suc a
 
--- the distances of what stands after a smaller or equal reading: each 0 becomes the distance to that reading
+-- the distances of what stands after a smaller or equal value: each 0 becomes the distance to that value
 unfoldable pub lift : ℕ → List ℕ → List ℕ
 lift k [] = []
 lift k (d ∷ ds) = orElse d k ∷ lift (suc k) ds
