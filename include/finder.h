@@ -124,8 +124,10 @@ FinderState finder_new_search(void);
 FinderStreamed finder_stream_search(const uint32_t *set, size_t set_words, const uint32_t *automaton, size_t automaton_words,
                                     FinderState state, const int32_t *values, size_t n, uint32_t *hits, size_t hits_room);
 
-/* Writes all hits of a whole text, the same list; tells the hits (first) and the candidates that were looked at (second).
- * Refuses 1, 5, 9, 11, and has then written nothing. */
+/* Writes all hits of a whole text, the same list; tells the hits (first) and the candidates (second). A candidate is a pair of a
+ * pattern and a window within the text whose last b values fall at the same places (they have one fingerprint), where b is the
+ * length of the shortest pattern, 17 at most. Every hit is a candidate, and not every candidate need be checked. Refuses 1, 5, 9,
+ * 11, and has then written nothing. */
 FinderCounts finder_filter_search(const uint32_t *set, size_t set_words, const int32_t *text, size_t n, uint32_t *hits,
                                   size_t hits_room);
 

@@ -9,6 +9,7 @@ import os
 import re
 import subprocess
 import sys
+from itertools import zip_longest
 
 ROOT = os.path.dirname(os.path.dirname(os.path.abspath(__file__)))
 FOLDER = os.path.join(ROOT, "target", "api")
@@ -35,7 +36,17 @@ def write(name, text):
 
 def output(words, **environment):
     """What a command prints; the script ends where it fails."""
-    return subprocess.run(words, check=True, stdout=subprocess.PIPE, text=True, env={**os.environ, **environment}).stdout
+    run = subprocess.run(words, check=False, stdout=subprocess.PIPE, text=True, env={**os.environ, **environment})
+    if run.returncode:
+        sys.exit("docs/API.md: this ended with status %d, expected 0: %s" % (run.returncode, " ".join(words)))
+    return run.stdout
+
+
+def compare(language, expected, got):
+    """The script ends where an example prints something else than the page says."""
+    for number, (want, line) in enumerate(zip_longest(expected.splitlines(), got.splitlines()), 1):
+        if want != line:
+            sys.exit("docs/API.md: the example in %s prints something else in line %d: expected %r, got %r" % (language, number, want, line))
 
 
 def main():
@@ -47,9 +58,8 @@ def main():
             os.path.join(LIBRARY, "libfinder_c.a"), "-o", program])
     write("rust/src/main.rs", blocks["rust"])
     manifest = write("rust/Cargo.toml", MANIFEST % os.path.join(ROOT, "rust"))
-    from_rust = output(["cargo", "run", "--offline", "--quiet", "--manifest-path", manifest], FINDER_LIB=LIBRARY)
-    if output([program]) != blocks["text"] or from_rust != blocks["text"]:
-        sys.exit("docs/API.md: an example prints something else than the page says")
+    compare("C", blocks["text"], output([program]))
+    compare("Rust", blocks["text"], output(["cargo", "run", "--offline", "--quiet", "--manifest-path", manifest], FINDER_LIB=LIBRARY))
     print("docs/API.md: both examples print what the page says")
 
 

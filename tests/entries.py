@@ -229,9 +229,9 @@ for _ in range(250):
         case_list(random.choice((2, 3, 4)), ds, len(ds))
         case_encode(ds)
 for n, c, room in ((4, 23, 4), (4, 17, 4), (4, 24, 4), (4, 23, 3), (0, 0, 4), (21, 0, 30), (20, 0, 20), (20, 0, 19), (1, 0, 1),
-                   (1, 1, 1), (20, factorial(20) - 1, 25), (20, 999999999999999999, 20), (5, 107, 9), (2, 2, 2)):
-    if c < 10 ** 18:
-        case_decode(n, c, room)
+                   (1, 1, 1), (20, factorial(20) - 1, 25), (20, factorial(20), 25), (20, 2 ** 64 - 1, 20), (1, 2 ** 64 - 1, 1),
+                   (20, 999999999999999999, 20), (5, 107, 9), (2, 2, 2)):
+    case_decode(n, c, room)
 for c in range(121):
     case_decode(5, c, random.randint(4, 6))
 

@@ -37,15 +37,26 @@ def printed(data, part=0):
 cases, failed = 0, 0
 
 
+def difference(want, got):
+    """The first place where two texts differ, and the lines of both there."""
+    at = next((i for i, (a, b) in enumerate(zip(want, got)) if a != b), min(len(want), len(got)))
+    line = want[:at].count(b"\n")
+    rows = [text.split(b"\n")[line][:80] if line <= text.count(b"\n") else b"" for text in (want, got)]
+    return "line %d: expected %r, printed %r" % (line + 1, *rows)
+
+
 def case(name, data, want=None, part=0):
     """One input; `want` is given where the answer is known beforehand."""
     global cases, failed
     cases += 1
     right = expected(data)
     got = printed(data, part)
-    if got != right or (want is not None and right != want):
+    if want is not None and right != want:
         failed += 1
-        print("FAILED", name, "input", data[:80], "printed", got[:80], "expected", (want or right)[:80])
+        print("FAILED: case %d, %s: hits_inputs.py computes another answer than is known, %s" % (cases, name, difference(want, right)))
+    elif got != right:
+        failed += 1
+        print("FAILED: case %d, %s: input %r: %s" % (cases, name, data[:80], difference(right, got)))
 
 
 def pipe_cases():

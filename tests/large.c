@@ -17,7 +17,7 @@ static void check(int good, const char *name)
     checks++;
     if (!good) {
         wrong++;
-        printf("WRONG: %s\n", name);
+        printf("WRONG: check %u, expected: %s\n", checks, name);
     }
 }
 

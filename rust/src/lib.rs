@@ -230,7 +230,8 @@ impl Set {
 pub struct Found {
     /// The hits, in their order.
     pub hits: Vec<Hit>,
-    /// The pairs of pattern and window that the filter let through to the check.
+    /// The candidates: pairs of a pattern and a window within the text whose last values fall at the same places (they have one
+    /// fingerprint); compared are as many values as the shortest pattern has, 17 at most. Every hit is a candidate.
     pub candidates: usize,
 }
 

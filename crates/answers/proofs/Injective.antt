@@ -1,10 +1,6 @@
 -- What an answer tells determines the answer: from the numbers the answer can be read back.
-use mathlib.Core.Path.{_≡_, refl, sym, _∙_, ap}
-use mathlib.Core.List.{List, [], _∷_}
-use Prim.Native.Nat.{ℕ, zero, suc}
-use lib.ListN.{getD}
+use Rattle.lists.proofs.Prelude.{_≡_, _∙_, ap, sym, refl, ℕ, zero, suc, _<_, arith}
 use Rattle.answers.specs.declared.Refusal.{Refusal}
-use Rattle.answers.specs.declared.Refusal.the-variants.{Empty, TooLong, CodeTooLong, NotRealizable, BrokenSet, SetFull, OtherAutomaton, BrokenState, TextTooLong, ArrayTooShort, ListTooLong}
 use Rattle.answers.specs.declared.Written.{Written}
 use Rattle.answers.specs.declared.Encoded.{Encoded}
 use Rattle.answers.specs.declared.SetSize.{SetSize}
@@ -13,47 +9,23 @@ use Rattle.answers.specs.declared.Filtered.{Filtered}
 use Rattle.answers.specs.declared.StreamAnswer.{StreamAnswer}
 use Rattle.answers.specs.declared.Counts.{Counts}
 use Rattle.answers.specs.Told.{number, toldWritten, toldEncoded, toldSize, toldBuilt, toldFiltered, toldStreamed}
+use Rattle.answers.proofs.Refusals.{refusalOf, number-refusal, number-positive}
 
 -- a map that can be undone is injective
 undo : {A B : Type 0} (f : A → B) (g : B → A) → ((a : A) → g (f a) ≡ a) → (a b : A) → f a ≡ f b → a ≡ b
 undo f g h a b e = sym (h a) ∙ ap g e ∙ h b
-
-abbrev refusalOf : ℕ → Refusal
-refusalOf n = getD (Empty ∷ Empty ∷ TooLong ∷ CodeTooLong ∷ NotRealizable ∷ BrokenSet ∷ SetFull ∷ OtherAutomaton ∷ BrokenState ∷ TextTooLong ∷ ArrayTooShort ∷ ListTooLong ∷ []) n Empty
-
-refusal-back : (r : Refusal) → refusalOf (number r) ≡ r
-refusal-back Empty = refl
-refusal-back TooLong = refl
-refusal-back CodeTooLong = refl
-refusal-back NotRealizable = refl
-refusal-back BrokenSet = refl
-refusal-back SetFull = refl
-refusal-back OtherAutomaton = refl
-refusal-back BrokenState = refl
-refusal-back TextTooLong = refl
-refusal-back ArrayTooShort = refl
-refusal-back ListTooLong = refl
-
-pub number-injective : (r s : Refusal) → number r ≡ number s → r ≡ s
-number-injective = undo number refusalOf refusal-back
 
 -- 0 where the call is accepted
 abbrev choose : {A : Type 0} → ℕ → A → (Refusal → A) → A
 choose zero a f = a
 choose (suc n) a f = f (refusalOf (suc n))
 
+choose-positive : {A : Type 0} (n : ℕ) (a : A) (f : Refusal → A) → 0 < n → choose n a f ≡ f (refusalOf n)
+choose-positive zero a f h = absurd (let z : ⊥ = omega arith in z)
+choose-positive (suc n) a f h = refl
+
 choose-refused : {A : Type 0} (r : Refusal) (a : A) (f : Refusal → A) → choose (number r) a f ≡ f r
-choose-refused Empty a f = refl
-choose-refused TooLong a f = refl
-choose-refused CodeTooLong a f = refl
-choose-refused NotRealizable a f = refl
-choose-refused BrokenSet a f = refl
-choose-refused SetFull a f = refl
-choose-refused OtherAutomaton a f = refl
-choose-refused BrokenState a f = refl
-choose-refused TextTooLong a f = refl
-choose-refused ArrayTooShort a f = refl
-choose-refused ListTooLong a f = refl
+choose-refused r a f = choose-positive (number r) a f (number-positive r) ∙ ap f (number-refusal r)
 
 pub toldWritten-injective : (a b : Written) → toldWritten a ≡ toldWritten b → a ≡ b
 toldWritten-injective = undo toldWritten (λ (w : ℕ × ℕ). choose (w .0) (Written.Words (w .1)) Written.Refused) back

@@ -1,27 +1,28 @@
--- What each answer tells: document 01's number of the refusal, 0 where there is none, and the counts, 0 where it is refused.
-use Prim.Native.Nat.{ℕ}
+-- What each answer tells: document 01's number of the refusal, 0 where there is none, and the
+-- counts, 0 where it is refused.
+use Rattle.lists.specs.Prelude.{ℕ, pos, replicate}
 use Rattle.answers.specs.declared.Refusal.{Refusal}
-use Rattle.answers.specs.declared.Refusal.the-variants.{Empty, TooLong, CodeTooLong, NotRealizable, BrokenSet, SetFull, OtherAutomaton, BrokenState, TextTooLong, ArrayTooShort, ListTooLong}
 use Rattle.answers.specs.declared.Written.{Written}
 use Rattle.answers.specs.declared.Encoded.{Encoded}
 use Rattle.answers.specs.declared.SetSize.{SetSize}
 use Rattle.answers.specs.declared.Built.{Built}
 use Rattle.answers.specs.declared.Filtered.{Filtered}
 use Rattle.answers.specs.declared.StreamAnswer.{StreamAnswer}
+use Rattle.answers.specs.declared.SearchState.{SearchState}
 
 -- Document 01: When the finder declines
 abbrev pub number : Refusal → ℕ
-number Empty = 1
-number TooLong = 2
-number CodeTooLong = 3
-number NotRealizable = 4
-number BrokenSet = 5
-number SetFull = 6
-number OtherAutomaton = 7
-number BrokenState = 8
-number TextTooLong = 9
-number ArrayTooShort = 10
-number ListTooLong = 11
+number Refusal.Empty = 1
+number Refusal.TooLong = 2
+number Refusal.CodeTooLong = 3
+number Refusal.NotRealizable = 4
+number Refusal.BrokenSet = 5
+number Refusal.SetFull = 6
+number Refusal.OtherAutomaton = 7
+number Refusal.BrokenState = 8
+number Refusal.TextTooLong = 9
+number Refusal.ArrayTooShort = 10
+number Refusal.ListTooLong = 11
 
 -- refusal and number of words
 abbrev pub toldWritten : Written → ℕ × ℕ
@@ -53,3 +54,9 @@ abbrev pub toldStreamed : StreamAnswer → ℕ × (ℕ × ℕ × ℕ × ℕ)
 toldStreamed (StreamAnswer.Ended c) = (0, (1, c .taken, c .hits, c .attempts))
 toldStreamed (StreamAnswer.Full c) = (0, (0, c .taken, c .hits, c .attempts))
 toldStreamed (StreamAnswer.Refused r) = (number r, (0, 0, 0, 0))
+
+-- ---- The state of a new search. Document 01: A new search starts with nothing taken, rung 0 and
+-- no open low.
+
+abbrev pub newSearch : SearchState
+newSearch = record { taken = 0; node = 0; minima = 0; first = 0; places = replicate 256 0; values = replicate 256 (pos 0) }

@@ -1,7 +1,7 @@
-// What the finder's entries answer, why they refuse, and the state of a stream search. A caller lists this crate and `finder`.
-ghost use mathlib.Core.Path.{_≡_};
-ghost use Rattle.answers.specs.Told.{number};
-ghost use Rattle.answers.specs.NewSearch.{newSearch};
+// What the finder's entries answer, why they refuse, and the state of a stream search. A caller
+// lists this crate and `finder`.
+ghost use Rattle.lists.specs.Prelude.{_≡_};
+ghost use Rattle.answers.specs.Told.{number, newSearch};
 
 // The reasons for a refusal; document 01 numbers them 1 to 11 in this order.
 pub enum Refusal {
@@ -42,7 +42,9 @@ pub enum Built {
     Refused(Refusal),
 }
 
-// The hits listed and the candidates that were checked for them.
+// The hits listed, and the candidates: the pairs of a pattern and a window within the text whose
+// last values, as many as the filter compares, have one fingerprint. Not every candidate need be
+// checked.
 pub enum Filtered {
     Found(usize, usize),
     Refused(Refusal),
@@ -55,15 +57,17 @@ pub struct Counts {
     pub attempts: usize,
 }
 
-// Ended: no value is left. Full: values are left, and the rest of the hit array may be too short for the hits of one more.
+// Ended: no value is left. Full: values are left, and the rest of the hit array may be too short
+// for the hits of one more.
 pub enum StreamAnswer {
     Ended(Counts),
     Full(Counts),
     Refused(Refusal),
 }
 
-// A search state between two calls: the values taken so far, the automaton's node, and the open minima among the last
-// 256 values taken, oldest first, in a ring that starts at slot `first`. Every bit pattern means some state.
+// A search state between two calls: the values taken so far, the automaton's node, and the open
+// minima among the last 256 values taken, oldest first, in a ring that starts at slot `first`.
+// Every bit pattern means some state.
 #[repr(C)]
 pub struct SearchState {
     pub taken: u32,

@@ -1,27 +1,17 @@
--- THE ENTRIES, for each way through them: the refusals of the builder, what it tells and leaves, and the tests of the check.
-use mathlib.Core.Path.{_≡_, refl, sym, _∙_, ap, ap₂}
-use mathlib.Core.Bool.{Bool, true, false}
-use mathlib.Core.List.{List, [], _∷_, _++_, flatten}
-use Prim.Native.Nat.{ℕ, suc, _+_, _*_, _≤_, _<_}
-use native.Mathlib.Omega.{arith}
-use borrow.Author.Tests.{lt-ltb, le-ltb}
-use lib.Dec.{ltb}
-use lib.ListN.{length, getD, take, drop, length-take}
-use lib.Seq.{take-take}
-use Rattle.lists.specs.Prelude.{same, begins}
-use Rattle.pattern_set.specs.PatternSet.{PatternSet, readSet}
-use Rattle.model.specs.Refusals.{firstMet, told, after}
-use Rattle.model.proofs.Refusals.{tellTwo, leave, met, unmet}
-use Rattle.set_arrays.proofs.Checked.{broken-searchable, empty-unsearchable, filled-searchable}
-use Rattle.model.specs.Entries.{isBroken, isUnsearchable, buildEntry}
-use Rattle.model.specs.Automaton.{nodes, automatonWords}
-use Rattle.model.proofs.Lengths.{length-automaton}
-use Rattle.set_access.specs.Patterns.{patternsOf, Good}
+-- THE ENTRIES, for each way through them: the refusals of the builder, what it tells and leaves,
+-- and the tests of the check.
+use Rattle.lists.proofs.Prelude.{_≡_, _∙_, ap, sym, refl, ap₂, Bool, false, not, List, [], _∷_, _++_, flatten, ℕ, suc, _+_, _*_, _≤_, _<_, ltb, length, getD}
+use Rattle.lists.proofs.Prelude.{take, drop, length-take, take-take, arith, lt-ltb, le-ltb, begins, same}
+use Rattle.lists.proofs.Parts.{getD-front}
+use Rattle.lists.proofs.Same.{same-false, false-same}
+use Rattle.pattern_set.specs.PatternSet.{PatternSet, patternsOf, isSet, IsSet}
+use Rattle.entries.specs.Entries.{firstMet, told, after, isUnsearchable, buildEntry}
+use Rattle.entries.proofs.Refusals.{toldBy, leftBy, met, unmet}
+use Rattle.entries.proofs.Searchable.{broken-searchable, empty-unsearchable, filled-searchable, is-broken, not-broken}
+use Rattle.automaton_model.specs.Automaton.{nodes, automatonWords}
+use Rattle.automaton_model.proofs.Lengths.{length-automaton}
 use Rattle.automaton_lookup.specs.Made.{Made}
-use Rattle.automaton_lookup.proofs.More.{getD-front}
-use Rattle.automaton_lookup.proofs.Words.{made-count}
-use Rattle.automaton_order.proofs.More.{same-false}
-use Rattle.automaton.proofs.More.{false-same}
+use Rattle.automaton_lookup.proofs.Words.{made-count, words-made}
 
 -- ---- build_automaton
 
@@ -36,34 +26,37 @@ module _ (ws out : List ℕ) where
   refused : (r : ℕ) → refusal ≡ suc r → Refuses (suc r)
   refused r e =
       let ps = patternsOf ws in (
-        ap (λ (a : ℕ). tellTwo a (length (nodes ps)) (length (automatonWords ps))) (sym e),
-        ap (λ (a : ℕ). leave a (automatonWords ps) out) (sym e),
+        ap (λ (a : ℕ). toldBy a (length (nodes ps)) (length (automatonWords ps))) (sym e),
+        ap (λ (a : ℕ). leftBy a (automatonWords ps) out) (sym e),
       )
 
   abbrev short : List (ℕ × Bool)
   short = (10, ltb (length out) (16 * (1 + length (flatten (patternsOf ws))))) ∷ []
 
-  pub build-broken : isBroken (readSet ws) ≡ true → Refuses 5
-  build-broken e = refused 4 (unmet 1 (isUnsearchable (readSet ws)) ((5, isBroken (readSet ws)) ∷ short) (broken-searchable (readSet ws) e) ∙ met 5 (isBroken (readSet ws)) short e)
+  pub build-broken : isSet ws ≡ false → Refuses 5
+  build-broken e =
+      refused 4 (unmet 1 (isUnsearchable ws) ((5, not (isSet ws)) ∷ short) (broken-searchable ws e) ∙ met 5 (not (isSet ws)) short (is-broken ws e))
 
-  pub build-empty : Good ws → length (patternsOf ws) ≡ 0 → Refuses 1
-  build-empty g z = refused 0 (met 1 (isUnsearchable (readSet ws)) ((5, isBroken (readSet ws)) ∷ short) (empty-unsearchable (readSet ws) g z))
+  pub build-empty : IsSet ws → length (patternsOf ws) ≡ 0 → Refuses 1
+  build-empty g z = refused 0 (met 1 (isUnsearchable ws) ((5, not (isSet ws)) ∷ short) (empty-unsearchable ws g z))
 
-  module _ (good : Good ws) (some : length (patternsOf ws) ≡ 0 → ⊥) where
+  module _ (good : IsSet ws) (some : length (patternsOf ws) ≡ 0 → ⊥) where
     only-short : refusal ≡ firstMet short
-    only-short = unmet 1 (isUnsearchable (readSet ws)) ((5, isBroken (readSet ws)) ∷ short) (filled-searchable (readSet ws) good some) ∙ unmet 5 (isBroken (readSet ws)) short good
+    only-short =
+        unmet 1 (isUnsearchable ws) ((5, not (isSet ws)) ∷ short) (filled-searchable ws good some) ∙ unmet 5 (not (isSet ws)) short (not-broken ws good)
 
     pub build-short : length out < 16 * (1 + length (flatten (patternsOf ws))) → Refuses 10
     build-short h = refused 9 (only-short ∙ rw (lt-ltb (length out) (16 * (1 + length (flatten (patternsOf ws)))) h) refl)
 
-    pub build-done : 16 * (1 + length (flatten (patternsOf ws))) ≤ length out → (n w : ℕ) (vs : List ℕ) → n ≡ length (nodes (patternsOf ws)) → w ≡ length (automatonWords (patternsOf ws))
+    pub build-done : 16 * (1 + length (flatten (patternsOf ws))) ≤ length out → (n w : ℕ) (vs : List ℕ) → n ≡ length (nodes (patternsOf ws))
+        → w ≡ length (automatonWords (patternsOf ws))
         → vs ≡ automatonWords (patternsOf ws) ++ drop (length (automatonWords (patternsOf ws))) out
         → (_≡_ {A = ℕ × (ℕ × ℕ)} (0, (n, w)) (told (0, 0) (buildEntry ws out))) × (vs ≡ after (buildEntry ws out) out)
     build-done h n w vs p q e =
         let ps = patternsOf ws in
         let c : refusal ≡ 0 = only-short ∙ rw (le-ltb (length out) (16 * (1 + length (flatten (patternsOf ws)))) h) refl in (
-          ap₂ (λ (a b : ℕ). (0, (a, b))) p q ∙ ap (λ (a : ℕ). tellTwo a (length (nodes ps)) (length (automatonWords ps))) (sym c),
-          e ∙ ap (λ (a : ℕ). leave a (automatonWords ps) out) (sym c),
+          ap₂ (λ (a b : ℕ). (0, (a, b))) p q ∙ ap (λ (a : ℕ). toldBy a (length (nodes ps)) (length (automatonWords ps))) (sym c),
+          e ∙ ap (λ (a : ℕ). leftBy a (automatonWords ps) out) (sym c),
         )
 
 -- ---- is_automaton
@@ -73,8 +66,9 @@ words-short ps words h =
     let w = automatonWords ps in
     same-false (take (length w) words) w (λ q. omega (arith, ap length q, length-take (length w) words))
 
-module _ (ws words : List ℕ) (good : Good ws) (some : 0 < length (patternsOf ws)) (k : ℕ) (e : k ≡ length (patternsOf ws)) where
-  pub front-differs : same (take (2 * k + 1) words) (take (2 * k + 1) (automatonWords (patternsOf ws))) ≡ false → begins words (automatonWords (patternsOf ws)) ≡ false
+module _ (ws words : List ℕ) (good : IsSet ws) (some : 0 < length (patternsOf ws)) (k : ℕ) (e : k ≡ length (patternsOf ws)) where
+  pub front-differs : same (take (2 * k + 1) words) (take (2 * k + 1) (automatonWords (patternsOf ws))) ≡ false
+      → begins words (automatonWords (patternsOf ws)) ≡ false
   front-differs f =
       let w = automatonWords (patternsOf ws) in
       same-false (take (length w) words) w
@@ -91,9 +85,16 @@ module _ (ws words : List ℕ) (good : Good ws) (some : 0 < length (patternsOf w
     pub front-count : getD words (2 * k) 0 ≡ length (nodes (patternsOf ws))
     front-count =
         let w = automatonWords (patternsOf ws) in
-        getD-front (2 * k + 1) words w 0 (2 * k) front (omega arith) ∙ made-count ws w 0 k (good, some, omega arith, refl, omega arith) e
+        getD-front (2 * k + 1) words w 0 (2 * k) front (omega arith) ∙ made-count (words-made ws k 0 good e some (omega arith))
 
-    pub front-made : length (automatonWords (patternsOf ws)) ≤ length words → Made ws words 0
+    pub front-made : length (automatonWords (patternsOf ws)) ≤ length words → Made ws words k 0
     front-made h =
-        let s : 2 * length (patternsOf ws) + 1 + 8 * 0 ≡ 2 * k + 1 = omega arith in
-        (good, some, omega arith, ap (λ (n : ℕ). take n words) s ∙ front ∙ ap (λ (n : ℕ). take n (automatonWords (patternsOf ws))) (sym s), h)
+        let s : 2 * k + 1 + 8 * 0 ≡ 2 * k + 1 = omega arith in
+        record {
+          isSet = good;
+          patterns = e;
+          filled = some;
+          within = omega arith;
+          begun = ap (λ (n : ℕ). take n words) s ∙ front ∙ ap (λ (n : ℕ). take n (automatonWords (patternsOf ws))) (sym s);
+          room = h;
+        }

@@ -1,37 +1,30 @@
--- THE WORDS BEFORE THE RECORDS: the order, what neighbours share, and the number of nodes; written one behind the other, and tested.
-use mathlib.Core.Path.{_≡_, refl, sym, _∙_, ap, ap₂}
-use mathlib.Core.Bool.{Bool, true, false, _&&_}
-use mathlib.Core.List.{List, [], _∷_, _++_, flatten, append-assoc}
-use Prim.Native.Nat.{ℕ, suc, _+_, _*_, _≤_, _<_}
-use native.Mathlib.Omega.{arith}
-use lib.Dec.{eqb}
-use lib.ListN.{length, getD, take, drop, set, length-append, length-take, length-drop}
-use lib.Seq.{take-add, take-at, drop-at, drop-append-add, drop-drop, drop-cons, set-at, take-suc, append-snoc, length-take-le}
-use Rattle.lists.specs.Prelude.{tabulate, same}
-use Rattle.lists.proofs.Lists.{length-tabulate}
+-- THE WORDS BEFORE THE RECORDS: the order, what neighbours share, and the number of nodes; written
+-- one behind the other, and tested.
+use Rattle.lists.proofs.Prelude.{_≡_, _∙_, ap, sym, refl, ap₂, Bool, true, false, _&&_, List, [], _∷_, _++_, append-assoc, ℕ, suc, _+_, _*_, _≤_, _<_, eqb}
+use Rattle.lists.proofs.Prelude.{length, getD, take, drop, set, length-append, length-take, length-drop, length-take-le, drop-cons, take-suc, append-snoc}
+use Rattle.lists.proofs.Prelude.{take-at, drop-drop, set-at, drop-at, take-add, drop-append-add, arith, same}
+use Rattle.lists.proofs.Tables.{length-tabulate}
+use Rattle.lists.proofs.Same.{same-false, same-append}
 use Rattle.pattern_set.specs.PatternSet.{PatternSet}
-use Rattle.model.specs.Automaton.{nodes, order, sharedAt, recordOf, automatonWords}
-use Rattle.model.proofs.Order.{length-order}
-use Rattle.model.proofs.Lengths.{length-automaton}
+use Rattle.automaton_model.specs.Automaton.{nodes, order, sharedAt, automatonWords}
+use Rattle.automaton_model.proofs.Order.{length-order}
+use Rattle.automaton_model.proofs.Lengths.{length-automaton}
+use Rattle.automaton_lookup.proofs.Words.{shares, numbers, records, length-numbers}
 use Rattle.automaton_order.specs.FirstWords.{HasOrder, HasShared}
-use Rattle.automaton_order.proofs.More.{same-false}
-use Rattle.automaton.proofs.More.{same-append}
 
 -- ---- the words before the records
 
 module _ (ps : PatternSet) where
-  length-numbers : length (order ps ++ tabulate (length ps) (sharedAt ps)) ≡ 2 * length ps
-  length-numbers = length-append (order ps) (tabulate (length ps) (sharedAt ps)) ∙ (omega (arith, length-order ps, length-tabulate (length ps) (sharedAt ps)))
-
-  front-words : take (2 * length ps + 1) (automatonWords ps) ≡ order ps ++ tabulate (length ps) (sharedAt ps) ++ (length (nodes ps) ∷ [])
+  front-words : take (2 * length ps + 1) (automatonWords ps) ≡ numbers ps ++ (length (nodes ps) ∷ [])
   unfolding automatonWords
   front-words =
-      let f = order ps ++ tabulate (length ps) (sharedAt ps) in
-      let rows = flatten (tabulate (length (nodes ps)) (recordOf ps)) in
+      let f = numbers ps in
+      let rows = records ps in
       ap (take (2 * length ps + 1)) (sym (append-snoc f (length (nodes ps)) rows))
-      ∙ take-at (f ++ (length (nodes ps) ∷ [])) rows (2 * length ps + 1) (length-append f (length (nodes ps) ∷ []) ∙ ap (λ (n : ℕ). n + 1) length-numbers)
+      ∙ take-at (f ++ (length (nodes ps) ∷ [])) rows (2 * length ps + 1) (length-append f (length (nodes ps) ∷ []) ∙ ap (λ (n : ℕ). n + 1) (length-numbers ps))
 
--- ---- writing them: d is the array as it was, and then the order, and what neighbours share, are written
+-- ---- writing them: d is the array as it was, and then the order, and what neighbours share, are
+-- written
 
 module _ (ps : PatternSet) (d o₁ : List ℕ) (room : 2 * length ps + 1 ≤ length d) (ordered : o₁ ≡ order ps ++ drop (length ps) d) where
   pub order-there : HasOrder ps o₁
@@ -50,30 +43,30 @@ module _ (ps : PatternSet) (d o₁ : List ℕ) (room : 2 * length ps + 1 ≤ len
       ∙ drop-drop (length ps) (length ps) d
       ∙ ap (λ (n : ℕ). drop n d) q
 
-  module _ (o₂ : List ℕ) (shared : o₂ ≡ order ps ++ tabulate (length ps) (sharedAt ps) ++ drop (2 * length ps) o₁) where
-    numbers-there : o₂ ≡ order ps ++ tabulate (length ps) (sharedAt ps) ++ drop (2 * length ps) d
-    numbers-there = shared ∙ ap (λ (l : List ℕ). order ps ++ tabulate (length ps) (sharedAt ps) ++ l) behind-order
+  module _ (o₂ : List ℕ) (shared : o₂ ≡ numbers ps ++ drop (2 * length ps) o₁) where
+    numbers-there : o₂ ≡ numbers ps ++ drop (2 * length ps) d
+    numbers-there = shared ∙ ap (λ (l : List ℕ). numbers ps ++ l) behind-order
 
-    apart : o₂ ≡ order ps ++ (tabulate (length ps) (sharedAt ps) ++ drop (2 * length ps) d)
-    apart = numbers-there ∙ append-assoc (order ps) (tabulate (length ps) (sharedAt ps)) (drop (2 * length ps) d)
+    apart : o₂ ≡ order ps ++ (shares ps ++ drop (2 * length ps) d)
+    apart = numbers-there ∙ append-assoc (order ps) (shares ps) (drop (2 * length ps) d)
 
     pub order-kept : HasOrder ps o₂
-    order-kept = ap (take (length ps)) apart ∙ take-at (order ps) (tabulate (length ps) (sharedAt ps) ++ drop (2 * length ps) d) (length ps) (length-order ps)
+    order-kept = ap (take (length ps)) apart ∙ take-at (order ps) (shares ps ++ drop (2 * length ps) d) (length ps) (length-order ps)
 
     pub shared-there : HasShared ps o₂
     shared-there =
-        ap (take (length ps)) (ap (drop (length ps)) apart ∙ drop-at (order ps) (tabulate (length ps) (sharedAt ps) ++ drop (2 * length ps) d) (length ps) (length-order ps))
-        ∙ take-at (tabulate (length ps) (sharedAt ps)) (drop (2 * length ps) d) (length ps) (length-tabulate (length ps) (sharedAt ps))
+        ap (take (length ps)) (ap (drop (length ps)) apart ∙ drop-at (order ps) (shares ps ++ drop (2 * length ps) d) (length ps) (length-order ps))
+        ∙ take-at (shares ps) (drop (2 * length ps) d) (length ps) (length-tabulate (length ps) (sharedAt ps))
 
     pub length-shared : length o₂ ≡ length d
     length-shared =
-        ap length numbers-there ∙ length-append (order ps ++ tabulate (length ps) (sharedAt ps)) (drop (2 * length ps) d)
+        ap length numbers-there ∙ length-append (numbers ps) (drop (2 * length ps) d)
         ∙ (omega (arith, length-numbers ps, length-drop (2 * length ps) d))
 
     -- with the number of nodes they are the front
     pub front-stored : (k v : ℕ) → k ≡ length ps → v ≡ length (nodes ps) → set o₂ (2 * k) v ≡ take (2 * k + 1) (automatonWords ps) ++ drop (2 * k + 1) d
     front-stored k v e c =
-        let f = order ps ++ tabulate (length ps) (sharedAt ps) in
+        let f = numbers ps in
         let n = length (nodes ps) in
         let s : suc (2 * length ps) ≡ 2 * length ps + 1 = omega arith in
         ap₂ (λ (i x : ℕ). set o₂ (2 * i) x) e c
@@ -94,12 +87,23 @@ same-one x y = go (eqb x y)
     go false = refl
 
 module _ (ps : PatternSet) (words : List ℕ) (k : ℕ) (e : k ≡ length ps) where
-  pub front-short : length words < 2 * k + 1 → same (take (2 * k + 1) words) (take (2 * k + 1) (automatonWords ps)) ≡ false
+  -- the tests: of all the words before the records, of the order, and of what neighbours share
+  abbrev pub sameFront : Bool
+  sameFront = same (take (2 * k + 1) words) (take (2 * k + 1) (automatonWords ps))
+
+  abbrev pub sameOrder : Bool
+  sameOrder = same (take (length ps) words) (order ps)
+
+  abbrev pub sameShares : Bool
+  sameShares = same (take (length ps) (drop (length ps) words)) (shares ps)
+
+  pub front-short : length words < 2 * k + 1 → sameFront ≡ false
   front-short h =
       same-false (take (2 * k + 1) words) (take (2 * k + 1) (automatonWords ps))
       (λ q. omega (arith, ap length q, length-take (2 * k + 1) words, length-take (2 * k + 1) (automatonWords ps), length-automaton ps))
 
-  front-split : 2 * k + 1 ≤ length words → take (2 * length ps + 1) words ≡ take (length ps) words ++ take (length ps) (drop (length ps) words) ++ (getD words (2 * length ps) 0 ∷ [])
+  front-split : 2 * k + 1 ≤ length words
+      → take (2 * length ps + 1) words ≡ take (length ps) words ++ take (length ps) (drop (length ps) words) ++ (getD words (2 * length ps) 0 ∷ [])
   front-split h =
       let s : 2 * length ps + 1 ≡ suc (2 * length ps) = omega arith in
       let t : 2 * length ps ≡ length ps + length ps = omega arith in
@@ -107,33 +111,30 @@ module _ (ps : PatternSet) (words : List ℕ) (k : ℕ) (e : k ≡ length ps) wh
       ∙ take-suc words (2 * length ps) 0 (omega arith)
       ∙ ap (λ (l : List ℕ). l ++ (getD words (2 * length ps) 0 ∷ [])) (ap (λ (n : ℕ). take n words) t ∙ take-add (length ps) (length ps) words)
 
-  front-test : 2 * k + 1 ≤ length words
-      → same (take (2 * k + 1) words) (take (2 * k + 1) (automatonWords ps))
-      ≡ (same (take (length ps) words) (order ps) && same (take (length ps) (drop (length ps) words)) (tabulate (length ps) (sharedAt ps))) && eqb (getD words (2 * k) 0) (length (nodes ps))
+  front-test : 2 * k + 1 ≤ length words → sameFront ≡ (sameOrder && sameShares) && eqb (getD words (2 * k) 0) (length (nodes ps))
   front-test h =
       let a = take (length ps) words in
       let b = take (length ps) (drop (length ps) words) in
-      let t = tabulate (length ps) (sharedAt ps) in
+      let t = shares ps in
       let la : length a ≡ length ps = length-take-le (length ps) words (omega arith) in
       let lb : length b ≡ length ps = length-take-le (length ps) (drop (length ps) words) (rw length-drop (omega arith)) in
       ap (λ (n : ℕ). same (take (2 * n + 1) words) (take (2 * n + 1) (automatonWords ps))) e
       ∙ ap₂ same (front-split h) (front-words ps)
-      ∙ same-append (a ++ b) (order ps ++ t) (getD words (2 * length ps) 0 ∷ []) (length (nodes ps) ∷ []) (length-append a b ∙ (omega (arith, length-numbers ps)))
+      ∙ same-append (a ++ b) (order ps ++ t) (getD words (2 * length ps) 0 ∷ []) (length (nodes ps) ∷ [])
+      (length-append a b ∙ (omega (arith, length-numbers ps)))
       ∙ ap₂ (λ (p q : Bool). p && q) (same-append a (order ps) b t (la ∙ sym (length-order ps))) (same-one (getD words (2 * length ps) 0) (length (nodes ps)))
       ∙ ap (λ (n : ℕ). (same a (order ps) && same b t) && eqb (getD words (2 * n) 0) (length (nodes ps))) (sym e)
 
   -- as the code tests them, one part after the other
   module _ (h : 2 * k + 1 ≤ length words) where
-    pub front-unordered : same (take (length ps) words) (order ps) ≡ false → same (take (2 * k + 1) words) (take (2 * k + 1) (automatonWords ps)) ≡ false
+    pub front-unordered : sameOrder ≡ false → sameFront ≡ false
     front-unordered p =
-        front-test h
-        ∙ ap (λ (b : Bool). (b && same (take (length ps) (drop (length ps) words)) (tabulate (length ps) (sharedAt ps))) && eqb (getD words (2 * k) 0) (length (nodes ps))) p
+        front-test h ∙ ap (λ (b : Bool). (b && sameShares) && eqb (getD words (2 * k) 0) (length (nodes ps))) p
 
-    pub front-unshared : same (take (length ps) words) (order ps) ≡ true → same (take (length ps) (drop (length ps) words)) (tabulate (length ps) (sharedAt ps)) ≡ false
-        → same (take (2 * k + 1) words) (take (2 * k + 1) (automatonWords ps)) ≡ false
+    pub front-unshared : sameOrder ≡ true → sameShares ≡ false → sameFront ≡ false
     front-unshared p q = front-test h ∙ ap₂ (λ (a b : Bool). (a && b) && eqb (getD words (2 * k) 0) (length (nodes ps))) p q
 
-    pub front-counted : same (take (length ps) words) (order ps) ≡ true → same (take (length ps) (drop (length ps) words)) (tabulate (length ps) (sharedAt ps)) ≡ true
-        → (x n : ℕ) → x ≡ getD words (2 * k) 0 → n ≡ length (nodes ps) → eqb x n ≡ same (take (2 * k + 1) words) (take (2 * k + 1) (automatonWords ps))
+    pub front-counted : sameOrder ≡ true → sameShares ≡ true
+        → (x n : ℕ) → x ≡ getD words (2 * k) 0 → n ≡ length (nodes ps) → eqb x n ≡ sameFront
     front-counted p q x n u v =
         ap₂ eqb u v ∙ sym (front-test h ∙ ap₂ (λ (a b : Bool). (a && b) && eqb (getD words (2 * k) 0) (length (nodes ps))) p q)

@@ -1,5 +1,5 @@
 -- The root of the crate's laws.
-pub mod More
+pub mod EightWords
 pub mod Front
 pub mod Records
 pub mod Along

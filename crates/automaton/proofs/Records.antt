@@ -1,152 +1,174 @@
--- THE RECORDS, ONE AFTER THE OTHER behind the front: an array that is grown by one record has one node more, and words that differ in one do not begin with the automaton.
-use mathlib.Core.Path.{_≡_, refl, sym, _∙_, ap, ap₂}
-use mathlib.Core.Bool.{true, false}
-use mathlib.Core.List.{List, _++_}
-use Prim.Native.Nat.{ℕ, _+_, _-_, _*_, _≤_, _<_}
-use native.Mathlib.Omega.{arith}
-use lib.ListN.{length, take, drop, length-append, length-drop, take-append-drop}
-use lib.Seq.{take-add, take-at, drop-append-add, drop-drop, take-length, take-take, ext-getD, getD-take, getD-drop, length-take-le}
-use Rattle.lists.specs.Prelude.{same, begins}
-use Rattle.pattern_set.specs.PatternSet.{PatternSet}
-use Rattle.model.specs.Automaton.{nodes, recordOf, automatonWords}
-use Rattle.model.proofs.Lengths.{length-automaton, length-record}
-use Rattle.set_access.specs.Patterns.{patternsOf, Good}
+-- THE RECORDS, ONE AFTER THE OTHER behind the front: an array that is grown by one record has one
+-- node more, and words that differ in one do not begin with the automaton.
+use Rattle.lists.proofs.Prelude.{_≡_, _∙_, ap, sym, refl, ap₂, true, false, List, _++_, ℕ, _+_, _-_, _*_, _≤_, _<_, length, take, drop, length-append}
+use Rattle.lists.proofs.Prelude.{length-drop, take-append-drop, length-take-le, getD-take, getD-drop, take-at, drop-drop, ext-getD, take-add, drop-append-add}
+use Rattle.lists.proofs.Prelude.{take-take, take-length, arith, begins, same}
+use Rattle.lists.proofs.Same.{same-true, same-false, false-same}
+use Rattle.lists.proofs.Parts.{drop-front}
+use Rattle.pattern_set.specs.PatternSet.{PatternSet, patternsOf, IsSet}
+use Rattle.automaton_model.specs.Automaton.{nodes, recordOf, automatonWords}
+use Rattle.automaton_model.proofs.Lengths.{length-automaton, length-record}
 use Rattle.automaton_lookup.specs.Made.{Made}
-use Rattle.automaton_lookup.proofs.Words.{made-field}
-use Rattle.automaton_order.proofs.More.{same-true, same-false}
-use Rattle.automaton.proofs.More.{false-same, drop-front}
+use Rattle.automaton_lookup.proofs.Words.{made-field, words-made}
 
--- ---- the records
+-- where the record of node n begins, for k patterns
+abbrev pub recordAt : ℕ → ℕ → ℕ
+recordAt k n = 2 * k + 1 + 8 * n
 
--- where the record of node n begins
-abbrev pub recordAt : PatternSet → ℕ → ℕ
-recordAt ps n = 2 * length ps + 1 + 8 * n
+-- ---- one record more
 
-module _ (ws : List ℕ) (good : Good ws) (some : 0 < length (patternsOf ws)) (n : ℕ) (h : n < length (nodes (patternsOf ws))) where
-  record-part : take 8 (drop (recordAt (patternsOf ws) n) (automatonWords (patternsOf ws))) ≡ recordOf (patternsOf ws) n
+module _ {set words : List ℕ} {k i : ℕ} (m : Made set words k i) (n : ℕ) (h : n < length (nodes (patternsOf set))) where
+  -- the words of the automaton, and its length
+  abbrev whole : List ℕ
+  whole = automatonWords (patternsOf set)
+
+  whole-length : length whole ≡ recordAt k (length (nodes (patternsOf set)))
+  whole-length = omega (arith, length-automaton (patternsOf set), m .patterns)
+
+  record-part : take 8 (drop (recordAt k n) whole) ≡ recordOf (patternsOf set) n
   record-part =
-      let ps = patternsOf ws in
-      let a = recordAt ps n in
-      let l : length (take 8 (drop a (automatonWords ps))) ≡ 8 = length-take-le 8 (drop a (automatonWords ps)) (rw length-drop (omega (arith, length-automaton ps))) in
-      ext-getD 0 (take 8 (drop a (automatonWords ps))) (recordOf ps n) (l ∙ sym (length-record ps n))
-      (λ i k. getD-take 8 (drop a (automatonWords ps)) i 0 (omega arith) ∙ getD-drop a (automatonWords ps) i 0
-      ∙ made-field ws (automatonWords ps) (n + 1) (length ps) n i (good, some, omega arith, refl, omega arith) refl (omega arith) (omega arith))
+      let a = recordAt k n in
+      let l : length (take 8 (drop a whole)) ≡ 8 = length-take-le 8 (drop a whole) (rw length-drop (omega (arith, whole-length))) in
+      let w = words-made set k (n + 1) (m .isSet) (m .patterns) (m .filled) (omega arith) in
+      ext-getD 0 (take 8 (drop a whole)) (recordOf (patternsOf set) n) (l ∙ sym (length-record (patternsOf set) n))
+      (λ j q. getD-take 8 (drop a whole) j 0 (omega arith) ∙ getD-drop a whole j 0 ∙ made-field w n j (omega arith) (omega arith))
 
   -- the words up to and with it
-  front-more : take (recordAt (patternsOf ws) (n + 1)) (automatonWords (patternsOf ws)) ≡ take (recordAt (patternsOf ws) n) (automatonWords (patternsOf ws)) ++ recordOf (patternsOf ws) n
+  front-more : take (recordAt k (n + 1)) whole ≡ take (recordAt k n) whole ++ recordOf (patternsOf set) n
   front-more =
-      let ps = patternsOf ws in
-      let s : recordAt ps (n + 1) ≡ recordAt ps n + 8 = omega arith in
-      ap (λ (i : ℕ). take i (automatonWords ps)) s ∙ take-add (recordAt ps n) 8 (automatonWords ps) ∙ ap (λ (l : List ℕ). take (recordAt ps n) (automatonWords ps) ++ l) record-part
-
-  -- one record more is there
-  pub made-more : (words : List ℕ) → Made ws words n → (at : ℕ) → at ≡ recordAt (patternsOf ws) n → take 8 (drop at words) ≡ recordOf (patternsOf ws) n → Made ws words (n + 1)
-  made-more words m at e q =
-      let ps = patternsOf ws in
-      let s : recordAt ps (n + 1) ≡ recordAt ps n + 8 = omega arith in
-      let t : take 8 (drop (recordAt ps n) words) ≡ recordOf ps n = ap (λ (i : ℕ). take 8 (drop i words)) (sym e) ∙ q in (
-        good,
-        some,
-        omega arith,
-        ap (λ (i : ℕ). take i words) s ∙ take-add (recordAt ps n) 8 words ∙ ap₂ (λ (x y : List ℕ). x ++ y) (m .3) t ∙ sym front-more,
-        m .4,
-      )
-
-  -- and is one record more that is written: d is the array as it was
-  pub grown-more : (d out vs : List ℕ) → length (automatonWords (patternsOf ws)) ≤ length d
-      → out ≡ take (recordAt (patternsOf ws) n) (automatonWords (patternsOf ws)) ++ drop (recordAt (patternsOf ws) n) d
-      → (at : ℕ) → at ≡ recordAt (patternsOf ws) n → vs ≡ recordOf (patternsOf ws) n
-      → take at out ++ vs ++ drop (at + 8) out ≡ take (recordAt (patternsOf ws) (n + 1)) (automatonWords (patternsOf ws)) ++ drop (recordAt (patternsOf ws) (n + 1)) d
-  grown-more d out vs l o at e v =
-      let ps = patternsOf ws in
-      let a = recordAt ps n in
-      let f = take a (automatonWords ps) in
-      let lf : length f ≡ a = length-take-le a (automatonWords ps) (omega (arith, length-automaton ps)) in
-      let s : a + 8 ≡ length f + 8 = omega arith in
-      let t : a + 8 ≡ recordAt ps (n + 1) = omega arith in
-      let x : take a out ≡ f = ap (take a) o ∙ take-at f (drop a d) a lf in
-      let y : drop (a + 8) out ≡ drop (recordAt ps (n + 1)) d =
-      ap₂ (λ (i : ℕ) (z : List ℕ). drop i z) s o ∙ drop-append-add f (drop a d) 8 ∙ drop-drop 8 a d ∙ ap (λ (i : ℕ). drop i d) t in
-      ap (λ (i : ℕ). take i out ++ vs ++ drop (i + 8) out) e
-      ∙ ap₂ (λ (u z : List ℕ). u ++ vs ++ z) x y
-      ∙ ap (λ (u : List ℕ). f ++ u ++ drop (recordAt ps (n + 1)) d) v
-      ∙ ap (λ (u : List ℕ). u ++ drop (recordAt ps (n + 1)) d) (sym front-more)
+      let s : recordAt k (n + 1) ≡ recordAt k n + 8 = omega arith in
+      ap (λ (j : ℕ). take j whole) s ∙ take-add (recordAt k n) 8 whole ∙ ap (λ (l : List ℕ). take (recordAt k n) whole ++ l) record-part
 
   -- a record that differs
-  pub begins-not : (words vs : List ℕ) (at : ℕ) → length (automatonWords (patternsOf ws)) ≤ length words → at ≡ recordAt (patternsOf ws) n → vs ≡ recordOf (patternsOf ws) n
-      → same (take 8 (drop at words)) vs ≡ false → begins words (automatonWords (patternsOf ws)) ≡ false
-  begins-not words vs at l e v f =
-      let ps = patternsOf ws in
-      let a = recordAt ps n in
-      let w = automatonWords ps in
-      same-false (take (length w) words) w
+  pub begins-not : (vs : List ℕ) (at : ℕ) → at ≡ recordAt k n → vs ≡ recordOf (patternsOf set) n → same (take 8 (drop at words)) vs ≡ false
+      → begins words whole ≡ false
+  begins-not vs at e v f =
+      let a = recordAt k n in
+      let l = whole-length in
+      same-false (take (length whole) words) whole
       (λ q. false-same (take 8 (drop at words)) vs f
-      (ap (λ (i : ℕ). take 8 (drop i words)) e
-      ∙ sym (drop-front a 8 words (omega (arith, length-automaton ps)))
-      ∙ ap (drop a) (sym (take-take (a + 8) (length w) words (omega (arith, length-automaton ps))) ∙ ap (take (a + 8)) q)
-      ∙ drop-front a 8 w (omega (arith, length-automaton ps))
+      (ap (λ (j : ℕ). take 8 (drop j words)) e
+      ∙ sym (drop-front a 8 words (omega (arith, m .room)))
+      ∙ ap (drop a) (sym (take-take (a + 8) (length whole) words (omega arith)) ∙ ap (take (a + 8)) q)
+      ∙ drop-front a 8 whole (omega arith)
       ∙ record-part
       ∙ sym v))
 
+-- one record more is there
+pub made-more : {set words : List ℕ} {k n : ℕ} → Made set words k n → n < length (nodes (patternsOf set))
+    → (at : ℕ) → at ≡ recordAt k n → take 8 (drop at words) ≡ recordOf (patternsOf set) n → Made set words k (n + 1)
+made-more {set} {words} {k} {n} m h at e q =
+    let s : recordAt k (n + 1) ≡ recordAt k n + 8 = omega arith in
+    let t : take 8 (drop (recordAt k n) words) ≡ recordOf (patternsOf set) n = ap (λ (i : ℕ). take 8 (drop i words)) (sym e) ∙ q in
+    record {
+      isSet = m .isSet;
+      patterns = m .patterns;
+      filled = m .filled;
+      within = omega arith;
+      begun = ap (λ (i : ℕ). take i words) s ∙ take-add (recordAt k n) 8 words ∙ ap₂ (λ (x y : List ℕ). x ++ y) (m .begun) t ∙ sym (front-more m n h);
+      room = m .room;
+    }
+
+-- ---- an array that grows
+
+-- `out` has the words of the automaton up to the record of node n - 1, and behind them those of d
+pub record Grown (set d out : List ℕ) (k n : ℕ) : Type 0 where
+  pub made : Made set out k n
+  pub words : out ≡ take (recordAt k n) (automatonWords (patternsOf set)) ++ drop (recordAt k n) d
+  pub sized : length out ≡ length d
+
+module _ {set d : List ℕ} {k : ℕ} where
+  -- an array with the first records
+  pub grown-start : {n : ℕ} → Made set d k n → Grown set d d k n
+  grown-start {n} m =
+      let a = recordAt k n in
+      record { made = m; words = sym (take-append-drop a d) ∙ ap (λ (l : List ℕ). l ++ drop a d) (m .begun); sized = refl }
+
+  -- words that are put together so
+  pub grown-from : (out : List ℕ) (n : ℕ) → IsSet set → k ≡ length (patternsOf set) → 0 < length (patternsOf set) → n ≤ length (nodes (patternsOf set))
+      → length (automatonWords (patternsOf set)) ≤ length d → out ≡ take (recordAt k n) (automatonWords (patternsOf set)) ++ drop (recordAt k n) d
+      → Grown set d out k n
+  grown-from out n g p z l r o =
+      let w = automatonWords (patternsOf set) in
+      let a = recordAt k n in
+      let f = length-take-le a w (omega (arith, length-automaton (patternsOf set))) in
+      let s : length out ≡ length d =
+      ap length o ∙ length-append (take a w) (drop a d) ∙ (omega (arith, length-drop a d, length-automaton (patternsOf set))) in
+      record {
+        made = record { isSet = g; patterns = p; filled = z; within = l; begun = ap (take a) o ∙ take-at (take a w) (drop a d) a f; room = omega arith };
+        words = o;
+        sized = s;
+      }
+
+  -- one record more is written
+  pub grown-more : {out : List ℕ} {n : ℕ} → Grown set d out k n → n < length (nodes (patternsOf set))
+      → (vs : List ℕ) (at : ℕ) → at ≡ recordAt k n → vs ≡ recordOf (patternsOf set) n → Grown set d (take at out ++ vs ++ drop (at + 8) out) k (n + 1)
+  grown-more {out} {n} r h vs at e v =
+      let m = r .made in
+      let w = automatonWords (patternsOf set) in
+      let a = recordAt k n in
+      let b = recordAt k (n + 1) in
+      let f = take a w in
+      let lf : length f ≡ a = length-take-le a w (omega (arith, length-automaton (patternsOf set), m .patterns)) in
+      let s : a + 8 ≡ length f + 8 = omega arith in
+      let t : a + 8 ≡ b = omega arith in
+      let x : take a out ≡ f = ap (take a) (r .words) ∙ take-at f (drop a d) a lf in
+      let y : drop (a + 8) out ≡ drop b d =
+      ap₂ (λ (i : ℕ) (z : List ℕ). drop i z) s (r .words) ∙ drop-append-add f (drop a d) 8 ∙ drop-drop 8 a d ∙ ap (λ (i : ℕ). drop i d) t in
+      grown-from (take at out ++ vs ++ drop (at + 8) out) (n + 1) (m .isSet) (m .patterns) (m .filled) (omega arith) (omega (arith, m .room, r .sized))
+      (ap (λ (i : ℕ). take i out ++ vs ++ drop (i + 8) out) e
+      ∙ ap₂ (λ (u z : List ℕ). u ++ vs ++ z) x y
+      ∙ ap (λ (u : List ℕ). f ++ u ++ drop b d) v
+      ∙ ap (λ (u : List ℕ). u ++ drop b d) (sym (front-more m n h)))
+
+  -- behind the records that are written the array is as it was
+  grown-behind : {out : List ℕ} {n : ℕ} → Grown set d out k n → (m : ℕ) → n ≤ m → drop (recordAt k m) out ≡ drop (recordAt k m) d
+  grown-behind {out} {n} r m h =
+      let w = automatonWords (patternsOf set) in
+      let a = recordAt k n in
+      let f = take a w in
+      let lf : length f ≡ a = length-take-le a w (omega (arith, length-automaton (patternsOf set), r .made .patterns, r .made .within)) in
+      let s : recordAt k m ≡ length f + 8 * (m - n) = omega arith in
+      let t : a + 8 * (m - n) ≡ recordAt k m = omega arith in
+      ap₂ (λ (i : ℕ) (z : List ℕ). drop i z) s (r .words) ∙ drop-append-add f (drop a d) (8 * (m - n)) ∙ drop-drop (8 * (m - n)) a d
+      ∙ ap (λ (i : ℕ). drop i d) t
+
+  -- an array that is grown from a grown one
+  pub grown-on : {o out : List ℕ} {m n : ℕ} → Grown set d o k m → Grown set o out k n → m ≤ n → Grown set d out k n
+  grown-on {o} {out} {m} {n} p q h =
+      record {
+        made = q .made;
+        words = q .words ∙ ap (λ (l : List ℕ). take (recordAt k n) (automatonWords (patternsOf set)) ++ l) (grown-behind p n h);
+        sized = q .sized ∙ p .sized;
+      }
+
+  -- the whole
+  pub grown-all : {out : List ℕ} {n : ℕ} → Grown set d out k n → n ≡ length (nodes (patternsOf set))
+      → out ≡ automatonWords (patternsOf set) ++ drop (length (automatonWords (patternsOf set))) d
+  grown-all {out} {n} r e =
+      let w = automatonWords (patternsOf set) in
+      let s : recordAt k n ≡ length w = omega (arith, length-automaton (patternsOf set), r .made .patterns) in
+      r .words ∙ ap (λ (i : ℕ). take i w ++ drop i d) s ∙ ap (λ (l : List ℕ). l ++ drop (length w) d) (take-length w)
+
 -- ---- all records
 
--- an array grown to record n has the records before it
-pub grown-made : (ws d out : List ℕ) (n : ℕ) → Good ws → 0 < length (patternsOf ws) → n ≤ length (nodes (patternsOf ws)) → length (automatonWords (patternsOf ws)) ≤ length d → length out ≡ length d
-    → out ≡ take (recordAt (patternsOf ws) n) (automatonWords (patternsOf ws)) ++ drop (recordAt (patternsOf ws) n) d → Made ws out n
-grown-made ws d out n good some h l e o =
-    let ps = patternsOf ws in
-    let a = recordAt ps n in
-    let f = take a (automatonWords ps) in
-    let lf : length f ≡ a = length-take-le a (automatonWords ps) (omega (arith, length-automaton ps)) in
-    (good, some, h, ap (take a) o ∙ take-at f (drop a d) a lf, omega arith)
+-- the front is written first, over the array d, and then the whole over it
+pub whole-over : {set d o : List ℕ} {k : ℕ} → Grown set d o k 0 → (out : List ℕ)
+    → out ≡ automatonWords (patternsOf set) ++ drop (length (automatonWords (patternsOf set))) o
+    → out ≡ automatonWords (patternsOf set) ++ drop (length (automatonWords (patternsOf set))) d
+whole-over {set} {d} {o} {k} r out q =
+    let w = automatonWords (patternsOf set) in
+    let s : recordAt k (length (nodes (patternsOf set))) ≡ length w = omega (arith, length-automaton (patternsOf set), r .made .patterns) in
+    q ∙ ap (λ (l : List ℕ). w ++ l) (rw s at (grown-behind r (length (nodes (patternsOf set))) (omega arith)))
 
-pub length-grown : (ps : PatternSet) (d : List ℕ) (n : ℕ) → n ≤ length (nodes ps) → length (automatonWords ps) ≤ length d → length (take (recordAt ps n) (automatonWords ps) ++ drop (recordAt ps n) d) ≡ length d
-length-grown ps d n h l =
-    let a = recordAt ps n in
-    length-append (take a (automatonWords ps)) (drop a d)
-    ∙ (omega (arith, length-take-le a (automatonWords ps) (omega (arith, length-automaton ps)), length-drop a d, length-automaton ps))
-
--- what an array with the first records is
-pub made-grown : (ws d : List ℕ) (n : ℕ) → Made ws d n → d ≡ take (recordAt (patternsOf ws) n) (automatonWords (patternsOf ws)) ++ drop (recordAt (patternsOf ws) n) d
-made-grown ws d n m =
-    let a = recordAt (patternsOf ws) n in
-    sym (take-append-drop a d) ∙ ap (λ (l : List ℕ). l ++ drop a d) (m .3)
-
--- behind the records that are written the array is as it was
-pub grown-behind : (ps : PatternSet) (d out : List ℕ) (n m : ℕ) → n ≤ m → m ≤ length (nodes ps) → out ≡ take (recordAt ps n) (automatonWords ps) ++ drop (recordAt ps n) d → drop (recordAt ps m) out ≡ drop (recordAt ps m) d
-grown-behind ps d out n m h l o =
-    let a = recordAt ps n in
-    let f = take a (automatonWords ps) in
-    let lf : length f ≡ a = length-take-le a (automatonWords ps) (omega (arith, length-automaton ps)) in
-    let s : recordAt ps m ≡ length f + 8 * (m - n) = omega arith in
-    let t : a + 8 * (m - n) ≡ recordAt ps m = omega arith in
-    ap₂ (λ (i : ℕ) (z : List ℕ). drop i z) s o ∙ drop-append-add f (drop a d) (8 * (m - n)) ∙ drop-drop (8 * (m - n)) a d ∙ ap (λ (i : ℕ). drop i d) t
-
--- the whole
-pub grown-all : (ps : PatternSet) (d out : List ℕ) (n : ℕ) → n ≡ length (nodes ps) → out ≡ take (recordAt ps n) (automatonWords ps) ++ drop (recordAt ps n) d → out ≡ automatonWords ps ++ drop (length (automatonWords ps)) d
-grown-all ps d out n e o =
-    let s : recordAt ps n ≡ length (automatonWords ps) = omega (arith, length-automaton ps) in
-    o ∙ ap (λ (i : ℕ). take i (automatonWords ps) ++ drop i d) s ∙ ap (λ (l : List ℕ). l ++ drop (length (automatonWords ps)) d) (take-length (automatonWords ps))
-
--- ---- the front, then all records
-
-module _ (ps : PatternSet) (d o : List ℕ) (k : ℕ) (e : k ≡ length ps) (front : o ≡ take (2 * k + 1) (automatonWords ps) ++ drop (2 * k + 1) d) where
-  pub front-grown : o ≡ take (recordAt ps 0) (automatonWords ps) ++ drop (recordAt ps 0) d
-  front-grown =
-      let s : 2 * k + 1 ≡ recordAt ps 0 = omega arith in
-      front ∙ ap (λ (i : ℕ). take i (automatonWords ps) ++ drop i d) s
-
-  pub whole-grown : (out : List ℕ) → out ≡ automatonWords ps ++ drop (length (automatonWords ps)) o → out ≡ automatonWords ps ++ drop (length (automatonWords ps)) d
-  whole-grown out q =
-      let s : recordAt ps (length (nodes ps)) ≡ length (automatonWords ps) = omega (arith, length-automaton ps) in
-      q ∙ ap (λ (l : List ℕ). automatonWords ps ++ l) (rw s at (grown-behind ps d o 0 (length (nodes ps)) (omega arith) (omega arith) front-grown))
-
-pub length-whole : (ps : PatternSet) (d : List ℕ) → length (automatonWords ps) ≤ length d → length (automatonWords ps ++ drop (length (automatonWords ps)) d) ≡ length d
+pub length-whole : (ps : PatternSet) (d : List ℕ) → length (automatonWords ps) ≤ length d
+    → length (automatonWords ps ++ drop (length (automatonWords ps)) d) ≡ length d
 length-whole ps d l = length-append (automatonWords ps) (drop (length (automatonWords ps)) d) ∙ (omega (arith, length-drop (length (automatonWords ps)) d))
 
-pub begins-all : (ws words : List ℕ) (n : ℕ) → Made ws words n → n ≡ length (nodes (patternsOf ws)) → begins words (automatonWords (patternsOf ws)) ≡ true
-begins-all ws words n m e =
-    let ps = patternsOf ws in
-    let w = automatonWords ps in
-    let s : recordAt ps n ≡ length w = omega (arith, length-automaton ps) in
-    same-true (take (length w) words) w (ap (λ (i : ℕ). take i words) (sym s) ∙ m .3 ∙ ap (λ (i : ℕ). take i w) s ∙ take-length w)
+-- words with all records begin with the automaton
+pub begins-all : {set words : List ℕ} {k n : ℕ} → Made set words k n → n ≡ length (nodes (patternsOf set))
+    → begins words (automatonWords (patternsOf set)) ≡ true
+begins-all {set} {words} {k} {n} m e =
+    let w = automatonWords (patternsOf set) in
+    let s : recordAt k n ≡ length w = omega (arith, length-automaton (patternsOf set), m .patterns) in
+    same-true (take (length w) words) w (ap (λ (i : ℕ). take i words) (sym s) ∙ m .begun ∙ ap (λ (i : ℕ). take i w) s ∙ take-length w)

@@ -1,14 +1,11 @@
 -- THE ROOM that is asked for holds the automaton of a good set.
-use mathlib.Core.List.{List, flatten}
-use Prim.Native.Nat.{ℕ, zero, suc, _+_, _*_, _≤_}
-use native.Mathlib.Omega.{arith}
-use lib.ListN.{length, take}
-use Rattle.model.specs.Automaton.{automatonWords}
-use Rattle.model.proofs.Lengths.{length-nodes, length-automaton}
-use Rattle.set_access.specs.Patterns.{patternsOf, Good}
+use Rattle.lists.proofs.Prelude.{List, flatten, ℕ, zero, suc, _+_, _*_, _≤_, length, take, arith}
+use Rattle.automaton_model.specs.Automaton.{automatonWords}
+use Rattle.automaton_model.proofs.Lengths.{length-nodes, length-automaton}
+use Rattle.pattern_set.specs.PatternSet.{patternsOf, IsSet}
 use Rattle.set_access.proofs.Laws.{offset-next, offset-le, pattern-ge}
 
-module _ (ws : List ℕ) (good : Good ws) where
+module _ (ws : List ℕ) (good : IsSet ws) where
   -- each pattern has a distance
   patterns-within : (j : ℕ) → j ≤ length (patternsOf ws) → j ≤ length (flatten (take j (patternsOf ws)))
   patterns-within zero h = omega arith

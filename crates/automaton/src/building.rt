@@ -1,17 +1,16 @@
-// Writing the words of an automaton into an array that has room for them. k is the number of patterns and count that of the nodes.
-ghost use mathlib.Core.Path.{_≡_};
-ghost use mathlib.Core.List.{_++_};
-ghost use Prim.Native.Nat.{_+_, _*_, _≤_, _<_};
-ghost use lib.ListN.{length, take, drop};
-ghost use Rattle.model.specs.Automaton.{nodes, automatonWords};
-ghost use Rattle.set_access.specs.Patterns.{patternsOf, Good};
+// Writing the words of an automaton into an array that has room for them. k is the number of
+// patterns and count that of the nodes.
+ghost use Rattle.lists.specs.Prelude.{_≡_, _++_, _+_, _*_, _≤_, _<_, length, take, drop};
+ghost use Rattle.automaton_model.specs.Automaton.{nodes, automatonWords};
+ghost use Rattle.pattern_set.specs.PatternSet.{patternsOf, IsSet};
 ghost use Rattle.automaton_lookup.specs.Made.{Made};
 ghost use Rattle.automaton_records.specs.Words.{recordWords};
 use automaton_records::Record;
 
-// The order, what neighbours share, and the number of nodes, which is also told; the words behind stay as they were.
+// The order, what neighbours share, and the number of nodes, which is also told; the words behind
+// stay as they were.
 pub(crate) fn write_front(set: &[u32], k: usize, out: &mut [u32]) -> usize
-    requires { ⌜ Good (now set) ⌝ }
+    requires { ⌜ IsSet (now set) ⌝ }
     requires { ⌜ (k ≡ length (patternsOf (now set))) × (length (automatonWords (patternsOf (now set))) ≤ length (now out)) ⌝ }
     ensures { λ r. ⌜ r ≡ length (nodes (patternsOf (now (set .entry)))) ⌝ }
     ensures { λ _. ⌜ now (out .exit) ≡ take (2 * k + 1) (automatonWords (patternsOf (now (set .entry)))) ++ drop (2 * k + 1) (now (out .entry)) ⌝ }
@@ -38,11 +37,13 @@ fn store_record(out: &mut [u32], at: usize, r: Record)
     out[at + 7] = r.ends;
 }
 
-// The records of all nodes behind the number of nodes, each made from those before it; the words behind stay as they were.
+// The records of all nodes behind the number of nodes, each made from those before it; the words
+// behind stay as they were.
 pub(crate) fn write_records(set: &[u32], k: usize, count: usize, out: &mut [u32])
-    requires { ⌜ Made (now set) (now out) 0 ⌝ }
-    requires { ⌜ (k ≡ length (patternsOf (now set))) × (count ≡ length (nodes (patternsOf (now set)))) ⌝ }
-    ensures { λ _. ⌜ now (out .exit) ≡ automatonWords (patternsOf (now (set .entry))) ++ drop (length (automatonWords (patternsOf (now (set .entry))))) (now (out .entry)) ⌝ }
+    requires { ⌜ Made (now set) (now out) k 0 ⌝ }
+    requires { ⌜ count ≡ length (nodes (patternsOf (now set))) ⌝ }
+    ensures { λ _. ⌜ now (out .exit)
+        ≡ automatonWords (patternsOf (now (set .entry))) ++ drop (length (automatonWords (patternsOf (now (set .entry))))) (now (out .entry)) ⌝ }
 {
     let root = automaton_records::root_record(set);
     store_record(out, 2 * k + 1, root);

@@ -1,23 +1,15 @@
-// Comparing words, whatever they are, with those of an automaton. k is the number of patterns and count that of the nodes.
-ghost use mathlib.Core.Path.{_≡_};
-ghost use Prim.Native.Nat.{_+_, _*_, _≤_, _<_};
-ghost use lib.ListN.{length, take, drop};
-ghost use Rattle.lists.specs.Prelude.{same, begins};
-ghost use Rattle.model.specs.Automaton.{nodes, automatonWords};
-ghost use Rattle.set_access.specs.Patterns.{patternsOf, Good};
+// Comparing words, whatever they are, with those of an automaton. k is the number of patterns and
+// count that of the nodes.
+ghost use Rattle.lists.specs.Prelude.{_≡_, _+_, _*_, _≤_, _<_, length, take, drop, same, begins};
+ghost use Rattle.automaton_model.specs.Automaton.{nodes, automatonWords};
+ghost use Rattle.pattern_set.specs.PatternSet.{patternsOf, IsSet};
 ghost use Rattle.automaton_lookup.specs.Made.{Made};
 ghost use Rattle.automaton_records.specs.Words.{recordWords};
 use automaton_records::Record;
 
-pub(crate) fn wide(x: u32) -> usize
-    ensures { λ r. ⌜ r ≡ x ⌝ }
-{
-    x as usize
-}
-
 // Whether the words begin with the order, what neighbours share, and the number of nodes.
 pub(crate) fn is_front(set: &[u32], k: usize, words: &[u32]) -> bool
-    requires { ⌜ Good (now set) ⌝ }
+    requires { ⌜ IsSet (now set) ⌝ }
     requires { ⌜ k ≡ length (patternsOf (now set)) ⌝ }
     ensures { λ r. ⌜ r ≡ same (take (2 * k + 1) (now (words .entry))) (take (2 * k + 1) (automatonWords (patternsOf (now (set .entry))))) ⌝ }
 {
@@ -30,7 +22,7 @@ pub(crate) fn is_front(set: &[u32], k: usize, words: &[u32]) -> bool
     if !automaton_order::is_shared(set, words) {
         return false;
     }
-    wide(words[2 * k]) == automaton_order::count_nodes(set, words)
+    casts::wide(words[2 * k]) == automaton_order::count_nodes(set, words)
 }
 
 // Whether the words of a record stand from `at` on.
@@ -58,10 +50,11 @@ fn is_record(words: &[u32], at: usize, r: Record) -> bool
     true
 }
 
-// Whether the records of all nodes stand behind the number of nodes. Each is made from those before it, which are known to be right.
+// Whether the records of all nodes stand behind the number of nodes. Each is made from those before
+// it, which are known to be right.
 pub(crate) fn are_records(set: &[u32], k: usize, count: usize, words: &[u32]) -> bool
-    requires { ⌜ Made (now set) (now words) 0 ⌝ }
-    requires { ⌜ (k ≡ length (patternsOf (now set))) × (count ≡ length (nodes (patternsOf (now set)))) ⌝ }
+    requires { ⌜ Made (now set) (now words) k 0 ⌝ }
+    requires { ⌜ count ≡ length (nodes (patternsOf (now set))) ⌝ }
     ensures { λ r. ⌜ r ≡ begins (now (words .entry)) (automatonWords (patternsOf (now (set .entry)))) ⌝ }
 {
     let root = automaton_records::root_record(set);

@@ -1,13 +1,10 @@
-// The automaton of a set: the entry that builds it, and the check that an array begins with its words.
-ghost use mathlib.Core.Path.{_≡_};
-ghost use Prim.Native.Nat.{_<_};
-ghost use lib.ListN.{length};
-ghost use Rattle.lists.specs.Prelude.{begins};
+// The automaton of a set: the entry that builds it, and the check that an array begins with its
+// words.
+ghost use Rattle.lists.specs.Prelude.{_≡_, _<_, length, begins};
 ghost use Rattle.answers.specs.Told.{toldBuilt};
-ghost use Rattle.model.specs.Automaton.{automatonWords};
-ghost use Rattle.model.specs.Refusals.{told, after};
-ghost use Rattle.model.specs.Entries.{buildEntry};
-ghost use Rattle.set_access.specs.Patterns.{patternsOf, Good};
+ghost use Rattle.automaton_model.specs.Automaton.{automatonWords};
+ghost use Rattle.entries.specs.Entries.{told, after, buildEntry};
+ghost use Rattle.pattern_set.specs.PatternSet.{patternsOf, IsSet};
 use answers::Built;
 use answers::Refusal;
 use answers::SetSize;
@@ -34,9 +31,10 @@ pub fn build_automaton(set: &[u32], out: &mut [u32]) -> Built
     Built::Nodes(count, 2 * k + 1 + 8 * count)
 }
 
-// Whether the words, whatever they are, begin with the automaton of the set. Linear in the distances of the set; nothing is written.
+// Whether the words, whatever they are, begin with the automaton of the set. Linear in the
+// distances of the set; nothing is written.
 pub fn is_automaton(set: &[u32], words: &[u32]) -> bool
-    requires { ⌜ Good (now set) ⌝ }
+    requires { ⌜ IsSet (now set) ⌝ }
     requires { ⌜ 0 < length (patternsOf (now set)) ⌝ }
     ensures { λ r. ⌜ r ≡ begins (now (words .entry)) (automatonWords (patternsOf (now (set .entry)))) ⌝ }
 {
@@ -44,7 +42,7 @@ pub fn is_automaton(set: &[u32], words: &[u32]) -> bool
     if !checking::is_front(set, k, words) {
         return false;
     }
-    let count = checking::wide(words[2 * k]);
+    let count = casts::wide(words[2 * k]);
     if words.len() < 2 * k + 1 + 8 * count {
         return false;
     }

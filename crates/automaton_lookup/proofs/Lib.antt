@@ -1,4 +1,4 @@
 -- The root of the crate's laws.
-pub mod More
 pub mod Words
-pub mod Branches
+pub mod ChildSearch
+pub mod Places

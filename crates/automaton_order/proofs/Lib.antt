@@ -1,7 +1,6 @@
 -- The root of the crate's laws.
-pub mod More
 pub mod Common
 pub mod Insertion
-pub mod Rises
+pub mod Neighbours
 pub mod Count
 pub mod FirstWords

@@ -1,30 +1,21 @@
--- THE PLACES OF THE CHILDREN: the places whose patterns begin with a node's head and go on are those of its children, side by side and in their order.
--- So the first child begins behind the patterns that end at the node, each other one where the one before it ends, and the children are as many as
--- places among them that share no more than the head with the place before.
-use mathlib.Core.Path.{_≡_, sym, _∙_, ap, subst}
-use mathlib.Core.Logic.{_⊎_, inl, inr}
-use mathlib.Core.List.{List, [], _∷_, _++_}
-use Prim.Native.Nat.{ℕ, suc, _+_, _-_, _≤_, _<_}
-use native.Mathlib.Omega.{arith}
-use native.Mathlib.Decide.{decLt}
-use lib.Dec.{T}
-use lib.ListN.{length, getD, take, length-append}
-use lib.Seq.{take-suc, take-all, take-take, getD-take, take-append-seam}
-use Rattle.lists.proofs.Select.{getD-mem}
-use Rattle.lists.specs.Prelude.{begins}
-use Rattle.lists.proofs.Lists.{same-eq, eq-same, mem-any}
+-- THE PLACES OF THE CHILDREN: the places whose patterns begin with a node's head and go on are
+-- those of its children, side by side and in their order. So the first child begins behind the
+-- patterns that end at the node, each other one where the one before it ends, and the children are
+-- as many as places among them that share no more than the head with the place before.
+use Rattle.lists.proofs.Prelude.{_≡_, _∙_, ap, sym, subst, inl, inr, _⊎_, List, [], _∷_, _++_, ℕ, suc, _+_, _-_, _≤_, _<_, T, length, getD, take, length-append}
+use Rattle.lists.proofs.Prelude.{getD-take, take-suc, take-all, take-append-seam, take-take, decLt, arith, begins}
+use Rattle.lists.proofs.Members.{getD-mem, mem-any}
+use Rattle.lists.proofs.Same.{same-eq, eq-same}
 use Rattle.pattern_set.specs.PatternSet.{PatternSet, goodSet}
 use Rattle.matching.specs.Matching.{isHead}
-use Rattle.model.specs.Automaton.{before, nodes, headOf, nodeOf, order, sharedAt, endsAt, children, firstChild}
-use Rattle.model.proofs.Before.{before-irrefl, take-before}
-use Rattle.model.proofs.Nodes.{head-node, node-head, nodes-rise}
-use Rattle.model.proofs.Children.{child-head, child-number}
-use Rattle.model.proofs.Order.{order-lt, order-behind, firstPlace, ends-within, end-at-place, place-of-end, beginsAt, begins-within, begins-at-place, place-of-begins, beginsAt-head}
-use Rattle.automaton_records.proofs.Shared.{patternAt, begins-length, interval-more, interval-shared}
-
--- the place behind the last pattern that begins with a node's head
-abbrev pub endOf : PatternSet → ℕ → ℕ
-endOf ps n = firstPlace ps (headOf ps n) + beginsAt ps (headOf ps n)
+use Rattle.automaton_model.specs.Automaton.{before, nodes, headOf, nodeOf, order, sharedAt, endsAt, children, firstChild}
+use Rattle.automaton_model.proofs.Before.{before-irrefl, take-before}
+use Rattle.automaton_model.proofs.Nodes.{head-node, node-head, nodes-rise}
+use Rattle.automaton_model.proofs.Children.{child-head, child-number}
+use Rattle.automaton_model.proofs.Order.{order-lt, order-behind, patternAt}
+use Rattle.automaton_lookup.specs.Places.{firstPlace, beginsAt, placeOf, endOf}
+use Rattle.automaton_lookup.proofs.Places.{ends-within, end-at-place, place-of-end, begins-within, begins-at-place, place-of-begins, beginsAt-head}
+use Rattle.automaton_records.proofs.Shared.{begins-length, interval-more, interval-shared}
 
 -- ---- the patterns that end at a head
 
@@ -41,13 +32,15 @@ ends-le-begins ps h = go (decLt (beginsAt ps h) (endsAt ps h))
     go (no f) = omega arith
 
 -- a pattern that begins with a head and is as long ends there
-pub ends-more : (ps : PatternSet) (h : List ℕ) (i : ℕ) → firstPlace ps h ≤ i → i < firstPlace ps h + beginsAt ps h → length (patternAt ps i) ≡ length h → i < firstPlace ps h + endsAt ps h
+pub ends-more : (ps : PatternSet) (h : List ℕ) (i : ℕ) → firstPlace ps h ≤ i → i < firstPlace ps h + beginsAt ps h
+    → length (patternAt ps i) ≡ length h → i < firstPlace ps h + endsAt ps h
 ends-more ps h i l k e =
     let t = same-eq (take (length h) (patternAt ps i)) h (begins-at-place ps h i l k) in
     place-of-end ps h i (omega (arith, begins-within ps h)) (sym (take-all (length h) (patternAt ps i) (omega arith)) ∙ t) .1
 
 -- one that ends there is as long
-pub ends-stop : (ps : PatternSet) (h : List ℕ) (i : ℕ) → firstPlace ps h ≤ i → i ≤ firstPlace ps h + endsAt ps h → (length (patternAt ps i) ≡ length h → ⊥) → i ≡ firstPlace ps h + endsAt ps h
+pub ends-stop : (ps : PatternSet) (h : List ℕ) (i : ℕ) → firstPlace ps h ≤ i → i ≤ firstPlace ps h + endsAt ps h
+    → (length (patternAt ps i) ≡ length h → ⊥) → i ≡ firstPlace ps h + endsAt ps h
 ends-stop ps h i l k f = go (decLt i (firstPlace ps h + endsAt ps h))
   where
     go : Dec (i < firstPlace ps h + endsAt ps h) → i ≡ firstPlace ps h + endsAt ps h
@@ -58,7 +51,7 @@ ends-stop ps h i l k f = go (decLt i (firstPlace ps h + endsAt ps h))
 
 module _ (ps : PatternSet) (g : T (goodSet ps)) (z : 0 < length ps) (n : ℕ) (h : n < length (nodes ps)) where
   -- each place of the node, behind those where a pattern ends, is a place of a child
-  place-child : (i : ℕ) → firstPlace ps (headOf ps n) + endsAt ps (headOf ps n) ≤ i → i < endOf ps n
+  place-child : (i : ℕ) → placeOf ps n + endsAt ps (headOf ps n) ≤ i → i < endOf ps n
       → (c : ℕ) × (firstChild ps n ≤ c) × (c < firstChild ps n + children ps n) × T (begins (patternAt ps i) (headOf ps c))
   unfolding isHead
   place-child i l k =
@@ -75,7 +68,7 @@ module _ (ps : PatternSet) (g : T (goodSet ps)) (z : 0 < length ps) (n : ℕ) (h
       let r = child-number ps g z n h (getD p (length u) 0) t in
       (nodeOf ps v, r .0, r .1, subst (λ (s : List ℕ). T (begins p s)) (sym (head-node ps g v t .1)) b)
     where
-      longer : (i : ℕ) → i < length ps → firstPlace ps (headOf ps n) + endsAt ps (headOf ps n) ≤ i → take (length (headOf ps n)) (patternAt ps i) ≡ headOf ps n
+      longer : (i : ℕ) → i < length ps → placeOf ps n + endsAt ps (headOf ps n) ≤ i → take (length (headOf ps n)) (patternAt ps i) ≡ headOf ps n
           → Dec (length (headOf ps n) < length (patternAt ps i)) → length (headOf ps n) < length (patternAt ps i)
       longer i m l e (yes d) = d
       longer i m l e (no f) =
@@ -92,39 +85,42 @@ module _ (ps : PatternSet) (g : T (goodSet ps)) (z : 0 < length ps) (n : ℕ) (h
       let e = same-eq (take (length (headOf ps c)) p) (headOf ps c) t in
       let m = child-length c l k in
       eq-same (take (length u) p) u
-      (sym (take-take (length u) (length (headOf ps c)) p (omega arith)) ∙ ap (take (length u)) (e ∙ child-head ps g z n h c l k .1) ∙ take-append-seam u (getD (headOf ps c) (length u) 0 ∷ []))
+      (sym (take-take (length u) (length (headOf ps c)) p (omega arith))
+      ∙ ap (take (length u)) (e ∙ child-head ps g z n h c l k .1)
+      ∙ take-append-seam u (getD (headOf ps c) (length u) 0 ∷ []))
 
   child-some : (c : ℕ) → firstChild ps n ≤ c → c < firstChild ps n + children ps n → 0 < beginsAt ps (headOf ps c)
   child-some c l k = beginsAt-head ps (headOf ps c) (node-head ps c (child-head ps g z n h c l k .0) .0)
 
   -- a child's places are places of the node
   child-inside : (c : ℕ) → firstChild ps n ≤ c → c < firstChild ps n + children ps n
-      → (firstPlace ps (headOf ps n) + endsAt ps (headOf ps n) ≤ firstPlace ps (headOf ps c)) × (endOf ps c ≤ endOf ps n)
+      → (placeOf ps n + endsAt ps (headOf ps n) ≤ placeOf ps c) × (endOf ps c ≤ endOf ps n)
   child-inside c l k =
       let s = child-some c l k in
       let w = begins-within ps (headOf ps c) in
-      let q = firstPlace ps (headOf ps c) in
+      let q = placeOf ps c in
       let b = begins-at-place ps (headOf ps c) q (omega arith) (omega arith) in
       let r = place-of-begins ps (headOf ps n) q (omega arith) (child-begins c l k (patternAt ps q) b) in
       let e = endOf ps c - 1 in
-      let y = place-of-begins ps (headOf ps n) e (omega arith) (child-begins c l k (patternAt ps e) (begins-at-place ps (headOf ps c) e (omega arith) (omega arith))) in
-      (from (decLt q (firstPlace ps (headOf ps n) + endsAt ps (headOf ps n))) b (r .0), omega (arith, y .1))
+      let a = begins-at-place ps (headOf ps c) e (omega arith) (omega arith) in
+      let y = place-of-begins ps (headOf ps n) e (omega arith) (child-begins c l k (patternAt ps e) a) in
+      (from (decLt q (placeOf ps n + endsAt ps (headOf ps n))) b (r .0), omega (arith, y .1))
     where
-      from : Dec (firstPlace ps (headOf ps c) < firstPlace ps (headOf ps n) + endsAt ps (headOf ps n)) → T (begins (patternAt ps (firstPlace ps (headOf ps c))) (headOf ps c)) → firstPlace ps (headOf ps n) ≤ firstPlace ps (headOf ps c)
-          → firstPlace ps (headOf ps n) + endsAt ps (headOf ps n) ≤ firstPlace ps (headOf ps c)
+      from : Dec (placeOf ps c < placeOf ps n + endsAt ps (headOf ps n)) → T (begins (patternAt ps (placeOf ps c)) (headOf ps c)) → placeOf ps n ≤ placeOf ps c
+          → placeOf ps n + endsAt ps (headOf ps n) ≤ placeOf ps c
       from (yes d) b r =
-          let q = firstPlace ps (headOf ps c) in
+          let q = placeOf ps c in
           omega (arith, ap length (end-at-place ps (headOf ps n) q r d), begins-length (patternAt ps q) (headOf ps c) b, child-length c l k)
       from (no f) b r = omega arith
 
   -- a child's places come before those of the children behind it
-  children-apart : (c e : ℕ) → firstChild ps n ≤ c → c < e → e < firstChild ps n + children ps n → endOf ps c ≤ firstPlace ps (headOf ps e)
+  children-apart : (c e : ℕ) → firstChild ps n ≤ c → c < e → e < firstChild ps n + children ps n → endOf ps c ≤ placeOf ps e
   children-apart c e l k m =
       let s = child-some c l (omega arith) in
       let t = child-some e (omega arith) m in
       let w = begins-within ps (headOf ps c) in
       let i = endOf ps c - 1 in
-      let j = firstPlace ps (headOf ps e) in
+      let j = placeOf ps e in
       let x = same-eq (take (length (headOf ps c)) (patternAt ps i)) (headOf ps c) (begins-at-place ps (headOf ps c) i (omega arith) (omega arith)) in
       let y = same-eq (take (length (headOf ps e)) (patternAt ps j)) (headOf ps e) (begins-at-place ps (headOf ps e) j (omega arith) (omega arith)) in
       let q : length (headOf ps c) ≡ length (headOf ps e) = child-length c l (omega arith) ∙ sym (child-length e (omega arith) m) in
@@ -133,7 +129,8 @@ module _ (ps : PatternSet) (g : T (goodSet ps)) (z : 0 < length ps) (n : ℕ) (h
       omega arith
     where
       lift : (length (headOf ps c) < length (headOf ps e)) ⊎ ((length (headOf ps c) ≡ length (headOf ps e)) × T (before (headOf ps c) (headOf ps e)))
-          → (i j : ℕ) → take (length (headOf ps c)) (patternAt ps i) ≡ headOf ps c → take (length (headOf ps e)) (patternAt ps j) ≡ headOf ps e → length (headOf ps c) ≡ length (headOf ps e)
+          → (i j : ℕ) → take (length (headOf ps c)) (patternAt ps i) ≡ headOf ps c → take (length (headOf ps e)) (patternAt ps j) ≡ headOf ps e
+          → length (headOf ps c) ≡ length (headOf ps e)
           → T (before (patternAt ps i) (patternAt ps j))
       lift (inl d) i j x y q = absurd (let f : ⊥ = omega arith in f)
       lift (inr d) i j x y q =
@@ -150,7 +147,7 @@ module _ (ps : PatternSet) (g : T (goodSet ps)) (z : 0 < length ps) (n : ℕ) (h
 
   -- a place of the node behind a child is a place of a child behind it
   child-behind : (c i : ℕ) → firstChild ps n ≤ c → c < firstChild ps n + children ps n → endOf ps c ≤ i → i < endOf ps n
-      → (e : ℕ) × (c < e) × (e < firstChild ps n + children ps n) × (firstPlace ps (headOf ps e) ≤ i) × (i < endOf ps e)
+      → (e : ℕ) × (c < e) × (e < firstChild ps n + children ps n) × (placeOf ps e ≤ i) × (i < endOf ps e)
   child-behind c i l k b m =
       let p = child-inside c l k in
       let r = place-child i (omega (arith, p .0)) m in
@@ -163,26 +160,26 @@ module _ (ps : PatternSet) (g : T (goodSet ps)) (z : 0 < length ps) (n : ℕ) (h
       go e o q (no d) (no f) = let a : endOf ps e ≡ endOf ps c = ap (endOf ps) (let y : e ≡ c = omega arith in y) in absurd (let y : ⊥ = omega arith in y)
 
   -- THE FIRST CHILD begins behind the patterns that end at the node
-  pub first-child-place : 0 < children ps n → firstPlace ps (headOf ps (firstChild ps n)) ≡ firstPlace ps (headOf ps n) + endsAt ps (headOf ps n)
+  pub first-child-place : 0 < children ps n → placeOf ps (firstChild ps n) ≡ placeOf ps n + endsAt ps (headOf ps n)
   first-child-place k =
       let c = firstChild ps n in
       let s = child-some c (omega arith) (omega arith) in
       let p = child-inside c (omega arith) (omega arith) in
-      let i = firstPlace ps (headOf ps n) + endsAt ps (headOf ps n) in
+      let i = placeOf ps n + endsAt ps (headOf ps n) in
       let r = place-child i (omega arith) (omega arith) in
       let q = place-of-begins ps (headOf ps (r .0)) i (omega (arith, begins-within ps (headOf ps n))) (r .3) in
       go (r .0) (r .1) (r .2) (q .0) (p .0) s (decLt c (r .0))
     where
-      go : (e : ℕ) → firstChild ps n ≤ e → e < firstChild ps n + children ps n → firstPlace ps (headOf ps e) ≤ firstPlace ps (headOf ps n) + endsAt ps (headOf ps n)
-          → firstPlace ps (headOf ps n) + endsAt ps (headOf ps n) ≤ firstPlace ps (headOf ps (firstChild ps n)) → 0 < beginsAt ps (headOf ps (firstChild ps n)) → Dec (firstChild ps n < e)
-          → firstPlace ps (headOf ps (firstChild ps n)) ≡ firstPlace ps (headOf ps n) + endsAt ps (headOf ps n)
+      go : (e : ℕ) → firstChild ps n ≤ e → e < firstChild ps n + children ps n → placeOf ps e ≤ placeOf ps n + endsAt ps (headOf ps n)
+          → placeOf ps n + endsAt ps (headOf ps n) ≤ placeOf ps (firstChild ps n) → 0 < beginsAt ps (headOf ps (firstChild ps n)) → Dec (firstChild ps n < e)
+          → placeOf ps (firstChild ps n) ≡ placeOf ps n + endsAt ps (headOf ps n)
       go e o m q p s (yes d) = let a = children-apart (firstChild ps n) e (omega arith) d m in absurd (let y : ⊥ = omega arith in y)
       go e o m q p s (no f) =
-          let a : firstPlace ps (headOf ps (firstChild ps n)) ≡ firstPlace ps (headOf ps e) = ap (λ (c : ℕ). firstPlace ps (headOf ps c)) (let y : firstChild ps n ≡ e = omega arith in y) in
+          let a : placeOf ps (firstChild ps n) ≡ placeOf ps e = ap (placeOf ps) (let y : firstChild ps n ≡ e = omega arith in y) in
           omega arith
 
   -- EACH OTHER CHILD begins where the one before it ends
-  pub next-child-place : (c : ℕ) → firstChild ps n ≤ c → suc c < firstChild ps n + children ps n → firstPlace ps (headOf ps (suc c)) ≡ endOf ps c
+  pub next-child-place : (c : ℕ) → firstChild ps n ≤ c → suc c < firstChild ps n + children ps n → placeOf ps (suc c) ≡ endOf ps c
   next-child-place c l k =
       let s = child-some (suc c) (omega arith) k in
       let p = child-inside (suc c) (omega arith) k in
@@ -190,17 +187,18 @@ module _ (ps : PatternSet) (g : T (goodSet ps)) (z : 0 < length ps) (n : ℕ) (h
       let r = child-behind c (endOf ps c) l (omega arith) (omega arith) (omega (arith, p .1)) in
       go (r .0) (r .1) (r .2) (r .3) s a (decLt (suc c) (r .0))
     where
-      go : (e : ℕ) → c < e → e < firstChild ps n + children ps n → firstPlace ps (headOf ps e) ≤ endOf ps c → 0 < beginsAt ps (headOf ps (suc c)) → endOf ps c ≤ firstPlace ps (headOf ps (suc c)) → Dec (suc c < e)
-          → firstPlace ps (headOf ps (suc c)) ≡ endOf ps c
+      go : (e : ℕ) → c < e → e < firstChild ps n + children ps n → placeOf ps e ≤ endOf ps c → 0 < beginsAt ps (headOf ps (suc c))
+          → endOf ps c ≤ placeOf ps (suc c) → Dec (suc c < e)
+          → placeOf ps (suc c) ≡ endOf ps c
       go e o m q s a (yes d) = let b = children-apart (suc c) e (omega arith) d m in absurd (let y : ⊥ = omega arith in y)
       go e o m q s a (no f) =
-          let b : firstPlace ps (headOf ps (suc c)) ≡ firstPlace ps (headOf ps e) = ap (λ (c : ℕ). firstPlace ps (headOf ps c)) (let y : suc c ≡ e = omega arith in y) in
+          let b : placeOf ps (suc c) ≡ placeOf ps e = ap (placeOf ps) (let y : suc c ≡ e = omega arith in y) in
           omega arith
 
   -- ---- counting the children
 
   -- a node has children exactly where not all of the patterns that begin with its head end there
-  pub count-none : endOf ps n ≤ firstPlace ps (headOf ps n) + endsAt ps (headOf ps n) → 0 ≡ children ps n
+  pub count-none : endOf ps n ≤ placeOf ps n + endsAt ps (headOf ps n) → 0 ≡ children ps n
   count-none l = go (decLt 0 (children ps n))
     where
       go : Dec (0 < children ps n) → 0 ≡ children ps n
@@ -211,24 +209,24 @@ module _ (ps : PatternSet) (g : T (goodSet ps)) (z : 0 < length ps) (n : ℕ) (h
           absurd (let y : ⊥ = omega (arith, p .0, p .1) in y)
       go (no f) = omega arith
 
-  some-child : firstPlace ps (headOf ps n) + endsAt ps (headOf ps n) < endOf ps n → 0 < children ps n
+  some-child : placeOf ps n + endsAt ps (headOf ps n) < endOf ps n → 0 < children ps n
   some-child l =
-      let r = place-child (firstPlace ps (headOf ps n) + endsAt ps (headOf ps n)) (omega arith) l in
+      let r = place-child (placeOf ps n + endsAt ps (headOf ps n)) (omega arith) l in
       omega (arith, r .1, r .2)
 
 -- so many children are met before place i: the last of them has the place before it
 pub record Counted (ps : PatternSet) (n count i : ℕ) : Type 0 where
   pub some : 0 < count
   pub within : count ≤ children ps n
-  pub behind : firstPlace ps (headOf ps (firstChild ps n + (count - 1))) < i
+  pub behind : placeOf ps (firstChild ps n + (count - 1)) < i
   pub upto : i ≤ endOf ps (firstChild ps n + (count - 1))
 
 module _ (ps : PatternSet) (g : T (goodSet ps)) (z : 0 < length ps) (n : ℕ) (h : n < length (nodes ps)) where
-  pub count-first : firstPlace ps (headOf ps n) + endsAt ps (headOf ps n) < endOf ps n → Counted ps n 1 (firstPlace ps (headOf ps n) + endsAt ps (headOf ps n) + 1)
+  pub count-first : placeOf ps n + endsAt ps (headOf ps n) < endOf ps n → Counted ps n 1 (placeOf ps n + endsAt ps (headOf ps n) + 1)
   count-first l =
       let s = some-child ps g z n h l in
       let e : firstChild ps n + (1 - 1) ≡ firstChild ps n = omega arith in
-      let a : firstPlace ps (headOf ps (firstChild ps n + (1 - 1))) ≡ firstPlace ps (headOf ps n) + endsAt ps (headOf ps n) = ap (λ (c : ℕ). firstPlace ps (headOf ps c)) e ∙ first-child-place ps g z n h s in
+      let a : placeOf ps (firstChild ps n + (1 - 1)) ≡ placeOf ps n + endsAt ps (headOf ps n) = ap (placeOf ps) e ∙ first-child-place ps g z n h s in
       let b = child-some ps g z n h (firstChild ps n + (1 - 1)) (omega arith) (omega arith) in
       record { some = omega arith; within = s; behind = omega arith; upto = omega arith }
 
@@ -254,9 +252,10 @@ module _ (ps : PatternSet) (g : T (goodSet ps)) (z : 0 < length ps) (n : ℕ) (h
           let a = next-child-place ps g z n h c (omega arith) m in
           let s = child-some ps g z n h (suc c) (omega arith) m in
           let o : firstChild ps n + (count + 1 - 1) ≡ suc c = omega (arith, r .some) in
-          rebuild (subst (λ (j : ℕ). firstPlace ps (headOf ps j) < i + 1) (sym o) (omega arith)) (subst (λ (j : ℕ). i + 1 ≤ endOf ps j) (sym o) (omega arith)) m
+          rebuild (subst (λ (j : ℕ). placeOf ps j < i + 1) (sym o) (omega arith)) (subst (λ (j : ℕ). i + 1 ≤ endOf ps j) (sym o) (omega arith)) m
         where
-          rebuild : firstPlace ps (headOf ps (firstChild ps n + (count + 1 - 1))) < i + 1 → i + 1 ≤ endOf ps (firstChild ps n + (count + 1 - 1)) → suc c < firstChild ps n + children ps n → Counted ps n (count + 1) (i + 1)
+          rebuild : placeOf ps (firstChild ps n + (count + 1 - 1)) < i + 1 → i + 1 ≤ endOf ps (firstChild ps n + (count + 1 - 1))
+              → suc c < firstChild ps n + children ps n → Counted ps n (count + 1) (i + 1)
           rebuild a b m = record { some = omega arith; within = omega (arith, r .some); behind = a; upto = b }
 
   -- any other place of the node is one of the same child
@@ -291,7 +290,8 @@ module _ (ps : PatternSet) (g : T (goodSet ps)) (z : 0 < length ps) (n : ℕ) (h
 -- ---- the label
 
 -- the last distance of a head is that of the pattern at its first place
-pub label-at : (ps : PatternSet) (h : List ℕ) (d : ℕ) → T (isHead ps h) → 0 < length h → d ≡ length h → getD (patternAt ps (firstPlace ps h)) (d - 1) 0 ≡ getD h (length h - 1) 0
+pub label-at : (ps : PatternSet) (h : List ℕ) (d : ℕ) → T (isHead ps h) → 0 < length h → d ≡ length h
+    → getD (patternAt ps (firstPlace ps h)) (d - 1) 0 ≡ getD h (length h - 1) 0
 label-at ps h d t l e =
     let s = beginsAt-head ps h t in
     let q = same-eq (take (length h) (patternAt ps (firstPlace ps h))) h (begins-at-place ps h (firstPlace ps h) (omega arith) (omega arith)) in

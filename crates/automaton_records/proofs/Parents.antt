@@ -1,45 +1,17 @@
--- THE PARENT OF A NODE: the first child's numbers rise, so the parent is the node whose children's numbers reach up to the node's own and no less far.
-use mathlib.Core.Path.{_≡_, refl, sym, _∙_, ap, subst}
-use mathlib.Core.List.{List, [], _∷_, _++_}
-use Prim.Native.Nat.{ℕ, zero, suc, _+_, _-_, _≤_, _<_}
-use native.Mathlib.Omega.{arith}
-use native.Mathlib.Decide.{decLt}
-use native.Mathlib.Numerals.{sub-one}
-use lib.Dec.{T}
-use lib.ListN.{length, getD}
+-- THE PARENT OF A NODE: the first child's numbers rise, so the parent is the node whose children's
+-- numbers reach up to the node's own and no less far.
+use Rattle.lists.proofs.Prelude.{_≡_, _∙_, ap, sym, subst, List, [], _∷_, _++_, ℕ, suc, _+_, _-_, _≤_, _<_, T, length, getD, decLt, arith}
+use Rattle.lists.proofs.Parts.{length-snoc}
 use Rattle.pattern_set.specs.PatternSet.{PatternSet, goodSet}
 use Rattle.matching.specs.Matching.{isHead}
-use Rattle.model.specs.Automaton.{nodes, headOf, nodeOf, children, firstChild, endsAt}
-use Rattle.model.proofs.Nodes.{node-head}
-use Rattle.model.proofs.Children.{child-is, parentNode, parentNode-lt, parentNode-child, child-number, child-larger, firstChild-within}
-use Rattle.model.proofs.Order.{firstPlace}
-use Rattle.automaton_records.proofs.Intervals.{endOf, first-child-place, next-child-place}
-
--- the first child of a later node is behind the children of a node
-pub firstChild-rises : (ps : PatternSet) (m n : ℕ) → m < n → firstChild ps m + children ps m ≤ firstChild ps n
-unfolding firstChild
-firstChild-rises ps m zero h = absurd (let y : ⊥ = omega arith in y)
-firstChild-rises ps m (suc n) h = go (decLt m n) (firstChild-rises ps m n)
-  where
-    go : Dec (m < n) → (m < n → firstChild ps m + children ps m ≤ firstChild ps n) → firstChild ps m + children ps m ≤ firstChild ps n + children ps n
-    go (yes d) ih = let r = ih d in omega arith
-    go (no f) ih =
-        let e : m ≡ n = omega arith in
-        omega (arith, ap (firstChild ps) e, ap (children ps) e)
-
--- the first child by the node before
-pub firstChild-next : (ps : PatternSet) (n : ℕ) → 0 < n → firstChild ps (n - 1) + children ps (n - 1) ≡ firstChild ps n
-unfolding firstChild
-firstChild-next ps zero h = absurd (let y : ⊥ = omega arith in y)
-firstChild-next ps (suc n) h = rw sub-one refl
+use Rattle.automaton_model.specs.Automaton.{nodes, headOf, nodeOf, children, firstChild, endsAt}
+use Rattle.automaton_model.proofs.Nodes.{node-head}
+use Rattle.automaton_model.proofs.Children.{child-is, child-head, parentNode, parentNode-lt, parentNode-child, child-number, child-larger, firstChild-rises}
+use Rattle.automaton_model.proofs.Children.{firstChild-within}
+use Rattle.automaton_lookup.specs.Places.{placeOf, endOf, ChildNode}
+use Rattle.automaton_records.proofs.Intervals.{first-child-place, next-child-place}
 
 module _ (ps : PatternSet) (g : T (goodSet ps)) (z : 0 < length ps) where
-  -- the children of a node are nodes
-  pub children-within : (n : ℕ) → n < length (nodes ps) → firstChild ps n + children ps n ≤ length (nodes ps)
-  children-within n h =
-      let e = firstChild-rises ps n (suc n) (omega arith) in
-      omega (arith, firstChild-within ps g z (suc n) h .1)
-
   module _ (n : ℕ) (l : 0 < n) (h : n < length (nodes ps)) where
     pub parent-range : (firstChild ps (parentNode ps n) ≤ n) × (n < firstChild ps (parentNode ps n) + children ps (parentNode ps n))
     parent-range =
@@ -79,23 +51,55 @@ module _ (ps : PatternSet) (g : T (goodSet ps)) (z : 0 < length ps) where
         go (yes d) = omega (arith, firstChild-rises ps p (parentNode ps n) d, parent-range .0)
         go (no f) = omega arith
 
-    -- ---- where the node begins
+-- ---- a child
 
-    module _ (p : ℕ) (k : firstChild ps p ≤ n) (m : n < firstChild ps p + children ps p) where
-      pub parent-is : p ≡ parentNode ps n
-      parent-is = parent-found p (parent-from p k) m
+-- node n is a child of node p, in the automaton of a good set
+pub record Child (ps : PatternSet) (p n : ℕ) : Type 0 where
+  pub good : T (goodSet ps)
+  pub filled : 0 < length ps
+  pub positive : 0 < n
+  pub within : n < length (nodes ps)
+  pub child : ChildNode ps p n
 
-      pub parent-node : p < length (nodes ps)
-      parent-node = omega (arith, parent-is, parentNode-lt ps g z n h)
+module _ {ps : PatternSet} {p n : ℕ} (r : Child ps p n) where
+  parent-is : p ≡ parentNode ps n
+  parent-is =
+      let q = parent-from ps (r .good) (r .filled) n (r .positive) (r .within) p (r .child .0) in
+      parent-found ps (r .good) (r .filled) n (r .positive) (r .within) p q (r .child .1)
 
-      -- so it has the smaller number
-      pub parent-below : p < n
-      parent-below = omega (arith, parent-is, parent-smaller)
+  pub parent-node : p < length (nodes ps)
+  parent-node = omega (arith, parent-is, parentNode-lt ps (r .good) (r .filled) n (r .within))
 
-      pub place-first : n ≡ firstChild ps p → firstPlace ps (headOf ps p) + endsAt ps (headOf ps p) ≡ firstPlace ps (headOf ps n)
-      place-first e = sym (first-child-place ps g z p parent-node (omega arith)) ∙ ap (λ (c : ℕ). firstPlace ps (headOf ps c)) (sym e)
+  -- the parent has the smaller number
+  pub parent-below : p < n
+  parent-below = omega (arith, parent-is, parent-smaller ps (r .good) (r .filled) n (r .positive) (r .within))
 
-      pub place-next : firstChild ps p < n → endOf ps (n - 1) ≡ firstPlace ps (headOf ps n)
-      place-next d =
-          let e : suc (n - 1) ≡ n = omega arith in
-          sym (next-child-place ps g z p parent-node (n - 1) (omega arith) (omega arith)) ∙ ap (λ (c : ℕ). firstPlace ps (headOf ps c)) e
+  -- and first children behind the root
+  pub first-behind : 0 < firstChild ps p
+  first-behind = let q = parent-node in firstChild-within ps (r .good) (r .filled) p (omega arith) .0
+
+  -- the child's head has one distance more
+  pub child-depth : length (headOf ps p) + 1 ≡ length (headOf ps n)
+  child-depth =
+      let e = child-head ps (r .good) (r .filled) p parent-node n (r .child .0) (r .child .1) .1 in
+      omega (arith, ap length e, length-snoc (headOf ps p) (getD (headOf ps n) (length (headOf ps p)) 0))
+
+  -- which is its label
+  pub child-label : (v : ℕ) → v ≡ getD (headOf ps n) (length (headOf ps n) - 1) 0 → headOf ps n ≡ headOf ps p ++ (v ∷ [])
+  child-label v e =
+      let d : length (headOf ps p) ≡ length (headOf ps n) - 1 = omega (arith, child-depth) in
+      child-head ps (r .good) (r .filled) p parent-node n (r .child .0) (r .child .1) .1
+      ∙ ap (λ (w : ℕ). headOf ps p ++ (w ∷ [])) (ap (λ (d : ℕ). getD (headOf ps n) d 0) d ∙ sym e)
+
+  -- the first child begins behind the patterns that end at its parent
+  pub place-first : n ≡ firstChild ps p → placeOf ps p + endsAt ps (headOf ps p) ≡ placeOf ps n
+  place-first e =
+      let l = r .child .1 in
+      sym (first-child-place ps (r .good) (r .filled) p parent-node (omega arith)) ∙ ap (placeOf ps) (sym e)
+
+  -- every other where the node before it ends
+  pub place-next : firstChild ps p < n → endOf ps (n - 1) ≡ placeOf ps n
+  place-next d =
+      let e : suc (n - 1) ≡ n = omega arith in
+      let l = r .child .1 in
+      sym (next-child-place ps (r .good) (r .filled) p parent-node (n - 1) (omega arith) (omega arith)) ∙ ap (placeOf ps) e

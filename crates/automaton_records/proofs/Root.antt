@@ -1,26 +1,20 @@
--- THE RECORD OF THE ROOT is the same for every set that has a pattern: each begins with 0 and none is empty.
-use mathlib.Core.Path.{_≡_, refl, sym, ap, subst}
-use mathlib.Core.List.{List, [], _∷_, _++_}
-use Prim.Native.Nat.{ℕ, suc, _+_, _-_, _<_}
-use native.Mathlib.Omega.{arith}
-use native.Mathlib.Decide.{decLt}
-use lib.Dec.{T}
-use lib.ListN.{length, drop-of-length-le}
-use Rattle.lists.specs.Prelude.{tabulate, same, lastBelow}
-use Rattle.lists.proofs.Lists.{same-eq}
+-- THE RECORD OF THE ROOT is the same for every set that has a pattern: each begins with 0 and none
+-- is empty.
+use Rattle.lists.proofs.Prelude.{_≡_, ap, sym, refl, subst, List, [], _∷_, _++_, ℕ, suc, _-_, _<_, T, length, drop-of-length-le, decLt, arith, tabulate}
+use Rattle.lists.proofs.Prelude.{lastBelow, same}
+use Rattle.lists.proofs.Same.{same-eq}
+use Rattle.lists.proofs.Select.{select-empty}
 use Rattle.cartesian.specs.Cartesian.{distances}
 use Rattle.realization.specs.Realization.{leastRealization}
 use Rattle.pattern_set.specs.PatternSet.{PatternSet, goodSet}
 use Rattle.matching.specs.Matching.{isHead, failure}
-use Rattle.model.specs.Automaton.{before, headOf, endsAt, children, firstChild, recordOf}
-use Rattle.model.proofs.More.{select-empty}
-use Rattle.model.proofs.Before.{before-nil}
-use Rattle.model.proofs.Nodes.{node-head, node-root, good-length, head-realizable}
-use Rattle.model.proofs.Children.{child-head, child-labels-rise, child-number}
-use Rattle.model.proofs.Order.{firstPlace}
+use Rattle.automaton_model.specs.Automaton.{before, headOf, endsAt, children, firstChild, recordOf}
+use Rattle.automaton_model.proofs.Before.{before-nil}
+use Rattle.automaton_model.proofs.Nodes.{node-head, node-root, good-length, head-realizable}
+use Rattle.automaton_model.proofs.Children.{child-head, child-labels-rise, child-number}
+use Rattle.automaton_lookup.specs.Places.{firstPlace}
 use Rattle.set_access.proofs.Laws.{realizable-le-place}
-use Rattle.automaton_records.proofs.Failures.{output-root}
-use Rattle.model.proofs.Chains.{zero-isHead}
+use Rattle.automaton_model.proofs.Chains.{zero-isHead, output-root}
 
 failure-empty : (ps : PatternSet) → failure ps [] ≡ []
 unfolding failure lastBelow distances tabulate

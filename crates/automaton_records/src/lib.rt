@@ -1,17 +1,12 @@
-// Making the record of one node of the automaton from the set and from the words before it, and finding the node's parent and first place.
-// The nodes are made by number, so `made` records are there: for the record of node n those of the nodes before it. k is the number of patterns.
-ghost use mathlib.Core.Path.{_≡_};
-ghost use mathlib.Core.List.{[], _∷_, _++_};
-ghost use Prim.Native.Nat.{_+_, _-_, _≤_, _<_};
-ghost use lib.Dec.{T};
-ghost use lib.ListN.{length, getD};
-ghost use Rattle.cartesian.specs.Cartesian.{cut};
+// Making the record of one node of the automaton from the set and from the words before it, and
+// finding the node's parent and first place. The nodes are made by number, so `made` records are
+// there: for the record of node n those of the nodes before it. k is the number of patterns.
+ghost use Rattle.lists.specs.Prelude.{_≡_, [], _∷_, _++_, _+_, _-_, _≤_, _<_, T, length, getD};
 ghost use Rattle.matching.specs.Matching.{isHead, failure, chain};
-ghost use Rattle.model.specs.Automaton.{nodes, headOf, nodeOf, endsAt, firstEnd, children, firstChild, recordOf};
-ghost use Rattle.model.proofs.Children.{parentNode};
-ghost use Rattle.model.proofs.Order.{firstPlace, beginsAt};
-ghost use Rattle.set_access.specs.Patterns.{patternsOf, Good};
+ghost use Rattle.automaton_model.specs.Automaton.{nodes, headOf, nodeOf, endsAt, firstEnd, children, firstChild, recordOf};
+ghost use Rattle.pattern_set.specs.PatternSet.{patternsOf, IsSet};
 ghost use Rattle.automaton_lookup.specs.Made.{Made};
+ghost use Rattle.automaton_lookup.specs.Places.{placeOf, endOf, ChildNode};
 ghost use Rattle.automaton_records.specs.Words.{recordWords};
 
 // The eight words of a node; docs/AUTOMATON.md says what each is.
@@ -32,12 +27,6 @@ pub struct MadeRecord {
     pub end: usize,
 }
 
-fn wide(x: u32) -> usize
-    ensures { λ r. ⌜ r ≡ x ⌝ }
-{
-    x as usize
-}
-
 // A number as a word: none is above that of the nodes.
 fn word(x: usize) -> u32
     requires { ⌜ x ≤ 4097 ⌝ }
@@ -48,7 +37,7 @@ fn word(x: usize) -> u32
 
 // The record of the root: every pattern begins with 0, so it has one child, node 1.
 pub fn root_record(set: &[u32]) -> Record
-    requires { ⌜ Good (now set) ⌝ }
+    requires { ⌜ IsSet (now set) ⌝ }
     requires { ⌜ 0 < length (patternsOf (now set)) ⌝ }
     ensures { λ r. ⌜ recordWords r ≡ recordOf (patternsOf (now (set .entry))) 0 ⌝ }
 {
@@ -64,16 +53,24 @@ pub fn root_record(set: &[u32]) -> Record
     }
 }
 
-// The place behind the last pattern that begins with the head of node n: the patterns share its distances one after the other.
-fn interval_end(set: &[u32], words: &[u32], k: usize, n: usize, place: usize, depth: usize) -> usize
-    requires { ⌜ Made (now set) (now words) n ⌝ }
-    requires { ⌜ (k ≡ length (patternsOf (now set))) × (n < length (nodes (patternsOf (now set)))) ⌝ }
-    requires { ⌜ (place ≡ firstPlace (patternsOf (now set)) (headOf (patternsOf (now set)) n)) × (depth ≡ length (headOf (patternsOf (now set)) n)) ⌝ }
-    ensures { λ r. ⌜ r ≡ firstPlace (patternsOf (now (set .entry))) (headOf (patternsOf (now (set .entry))) n) + beginsAt (patternsOf (now (set .entry))) (headOf (patternsOf (now (set .entry))) n) ⌝ }
+// The place behind the last pattern that begins with the head of node n: the patterns share its
+// distances one after the other.
+fn interval_end(
+    set: &[u32],
+    automaton: &[u32],
+    k: usize,
+    n: usize,
+    place: usize,
+    depth: usize,
+) -> usize
+    requires { ⌜ Made (now set) (now automaton) k n ⌝ }
+    requires { ⌜ n < length (nodes (patternsOf (now set))) ⌝ }
+    requires { ⌜ (place ≡ placeOf (patternsOf (now set)) n) × (depth ≡ length (headOf (patternsOf (now set)) n)) ⌝ }
+    ensures { λ r. ⌜ r ≡ endOf (patternsOf (now (set .entry))) n ⌝ }
 {
     let mut i = place + 1;
     while i < k {
-        if automaton_lookup::shared_at(set, words, k, n, i) < depth {
+        if automaton_lookup::shared_at(set, automaton, k, n, i) < depth {
             return i;
         }
         i += 1;
@@ -84,22 +81,22 @@ fn interval_end(set: &[u32], words: &[u32], k: usize, n: usize, place: usize, de
 // How many patterns end at node n: those of its places that have no more distances come first.
 fn count_ends(
     set: &[u32],
-    words: &[u32],
+    automaton: &[u32],
     k: usize,
     n: usize,
     place: usize,
     depth: usize,
     end: usize,
 ) -> usize
-    requires { ⌜ Made (now set) (now words) n ⌝ }
-    requires { ⌜ (k ≡ length (patternsOf (now set))) × (n < length (nodes (patternsOf (now set)))) ⌝ }
-    requires { ⌜ (place ≡ firstPlace (patternsOf (now set)) (headOf (patternsOf (now set)) n)) × (depth ≡ length (headOf (patternsOf (now set)) n)) ⌝ }
-    requires { ⌜ end ≡ place + beginsAt (patternsOf (now set)) (headOf (patternsOf (now set)) n) ⌝ }
+    requires { ⌜ Made (now set) (now automaton) k n ⌝ }
+    requires { ⌜ n < length (nodes (patternsOf (now set))) ⌝ }
+    requires { ⌜ (place ≡ placeOf (patternsOf (now set)) n) × (depth ≡ length (headOf (patternsOf (now set)) n)) ⌝ }
+    requires { ⌜ end ≡ endOf (patternsOf (now set)) n ⌝ }
     ensures { λ r. ⌜ r ≡ endsAt (patternsOf (now (set .entry))) (headOf (patternsOf (now (set .entry))) n) ⌝ }
 {
     let mut i = place;
     while i < end {
-        let j = automaton_lookup::pattern_in_order(set, words, k, n, i);
+        let j = automaton_lookup::pattern_in_order(set, automaton, k, n, i);
         if set_access::pattern_length(set, j) != depth {
             return i - place;
         }
@@ -108,21 +105,21 @@ fn count_ends(
     i - place
 }
 
-// How many children node n has: the first begins behind the patterns that end there, and another one at each place that shares just the head
-// with the place before.
+// How many children node n has: the first begins behind the patterns that end there, and another
+// one at each place that shares just the head with the place before.
 fn count_children(
     set: &[u32],
-    words: &[u32],
+    automaton: &[u32],
     k: usize,
     n: usize,
     from: usize,
     depth: usize,
     end: usize,
 ) -> usize
-    requires { ⌜ Made (now set) (now words) n ⌝ }
-    requires { ⌜ (k ≡ length (patternsOf (now set))) × (n < length (nodes (patternsOf (now set)))) × (depth ≡ length (headOf (patternsOf (now set)) n)) ⌝ }
-    requires { ⌜ from ≡ firstPlace (patternsOf (now set)) (headOf (patternsOf (now set)) n) + endsAt (patternsOf (now set)) (headOf (patternsOf (now set)) n) ⌝ }
-    requires { ⌜ end ≡ firstPlace (patternsOf (now set)) (headOf (patternsOf (now set)) n) + beginsAt (patternsOf (now set)) (headOf (patternsOf (now set)) n) ⌝ }
+    requires { ⌜ Made (now set) (now automaton) k n ⌝ }
+    requires { ⌜ (n < length (nodes (patternsOf (now set)))) × (depth ≡ length (headOf (patternsOf (now set)) n)) ⌝ }
+    requires { ⌜ from ≡ placeOf (patternsOf (now set)) n + endsAt (patternsOf (now set)) (headOf (patternsOf (now set)) n) ⌝ }
+    requires { ⌜ end ≡ endOf (patternsOf (now set)) n ⌝ }
     ensures { λ r. ⌜ r ≡ children (patternsOf (now (set .entry))) n ⌝ }
 {
     if end <= from {
@@ -131,7 +128,7 @@ fn count_children(
     let mut count: usize = 1;
     let mut i = from + 1;
     while i < end {
-        if automaton_lookup::shared_at(set, words, k, n, i) == depth {
+        if automaton_lookup::shared_at(set, automaton, k, n, i) == depth {
             count += 1;
         }
         i += 1;
@@ -140,66 +137,64 @@ fn count_children(
 }
 
 // The label of node n: the last of its head's distances, in the pattern at its first place.
-fn label_of(set: &[u32], words: &[u32], k: usize, n: usize, place: usize, depth: usize) -> u32
-    requires { ⌜ Made (now set) (now words) n ⌝ }
-    requires { ⌜ (k ≡ length (patternsOf (now set))) × (0 < n) × (n < length (nodes (patternsOf (now set)))) ⌝ }
-    requires { ⌜ (place ≡ firstPlace (patternsOf (now set)) (headOf (patternsOf (now set)) n)) × (depth ≡ length (headOf (patternsOf (now set)) n)) ⌝ }
+fn label_of(set: &[u32], automaton: &[u32], k: usize, n: usize, place: usize, depth: usize) -> u32
+    requires { ⌜ Made (now set) (now automaton) k n ⌝ }
+    requires { ⌜ (0 < n) × (n < length (nodes (patternsOf (now set)))) ⌝ }
+    requires { ⌜ (place ≡ placeOf (patternsOf (now set)) n) × (depth ≡ length (headOf (patternsOf (now set)) n)) ⌝ }
     ensures { λ r. ⌜ r ≡ getD (headOf (patternsOf (now (set .entry))) n) (length (headOf (patternsOf (now (set .entry))) n) - 1) 0 ⌝ }
 {
-    let j = automaton_lookup::pattern_in_order(set, words, k, n, place);
+    let j = automaton_lookup::pattern_in_order(set, automaton, k, n, place);
     set_access::distance_at(set, j, depth - 1)
 }
 
-// A distance in a window of d + 1 values: 0 where it leads out of it.
-fn cut_to(d: usize, v: u32) -> u32
-    ensures { λ r. ⌜ r ≡ cut d v ⌝ }
-{
-    if wide(v) <= d { v } else { 0 }
-}
-
-// The failure link of the child of the given label: the branch of the cut label of the first node that has it, from the parent's failure link on.
-fn failure_of(set: &[u32], words: &[u32], k: usize, made: usize, parent: usize, label: u32) -> usize
-    requires { ⌜ Made (now set) (now words) made ⌝ }
-    requires { ⌜ (k ≡ length (patternsOf (now set))) × (parent < made) × (firstChild (patternsOf (now set)) parent ≤ made) ⌝ }
+// The failure link of the child of the given label: where a step with the label leads from the
+// parent's failure link.
+fn failure_of(
+    set: &[u32],
+    automaton: &[u32],
+    k: usize,
+    made: usize,
+    parent: usize,
+    label: u32,
+) -> usize
+    requires { ⌜ Made (now set) (now automaton) k made ⌝ }
+    requires { ⌜ (parent < made) × (firstChild (patternsOf (now set)) parent ≤ made) ⌝ }
     requires { ⌜ T (isHead (patternsOf (now set)) (headOf (patternsOf (now set)) parent ++ (label ∷ []))) ⌝ }
-    ensures { λ r. ⌜ r ≡ nodeOf (patternsOf (now (set .entry))) (failure (patternsOf (now (set .entry))) (headOf (patternsOf (now (set .entry))) parent ++ (label ∷ []))) ⌝ }
+    ensures { λ r. ⌜ r
+        ≡ nodeOf (patternsOf (now (set .entry))) (failure (patternsOf (now (set .entry))) (headOf (patternsOf (now (set .entry))) parent ++ (label ∷ []))) ⌝ }
 {
     if parent == 0 {
         return 0;
     }
-    let mut f = automaton_lookup::failure(set, words, k, made, parent);
-    loop {
-        let d = automaton_lookup::depth(set, words, k, made, f);
-        let wanted = cut_to(d, label);
-        let c = automaton_lookup::child(set, words, k, made, f, wanted);
-        if c != 0 {
-            return c;
-        }
-        f = automaton_lookup::failure(set, words, k, made, f);
-    }
+    let link = automaton_lookup::failure(set, automaton, k, made, parent);
+    let step = failure_walk::advance(set, automaton, k, made, link, label);
+    step.node
 }
 
 // The output link of node n: itself where a pattern ends there, else that of its failure link.
-fn output_of(set: &[u32], words: &[u32], k: usize, n: usize, link: usize, ends: usize) -> usize
-    requires { ⌜ Made (now set) (now words) n ⌝ }
-    requires { ⌜ (k ≡ length (patternsOf (now set))) × (0 < n) × (n < length (nodes (patternsOf (now set)))) ⌝ }
-    requires { ⌜ (link ≡ nodeOf (patternsOf (now set)) (failure (patternsOf (now set)) (headOf (patternsOf (now set)) n))) × (ends ≡ endsAt (patternsOf (now set)) (headOf (patternsOf (now set)) n)) ⌝ }
-    ensures { λ r. ⌜ r ≡ nodeOf (patternsOf (now (set .entry))) (firstEnd (patternsOf (now (set .entry))) (chain (patternsOf (now (set .entry))) (headOf (patternsOf (now (set .entry))) n))) ⌝ }
+fn output_of(set: &[u32], automaton: &[u32], k: usize, n: usize, link: usize, ends: usize) -> usize
+    requires { ⌜ Made (now set) (now automaton) k n ⌝ }
+    requires { ⌜ (0 < n) × (n < length (nodes (patternsOf (now set)))) ⌝ }
+    requires { ⌜ (link ≡ nodeOf (patternsOf (now set)) (failure (patternsOf (now set)) (headOf (patternsOf (now set)) n)))
+        × (ends ≡ endsAt (patternsOf (now set)) (headOf (patternsOf (now set)) n)) ⌝ }
+    ensures { λ r. ⌜ r
+        ≡ nodeOf (patternsOf (now (set .entry))) (firstEnd (patternsOf (now (set .entry)))
+        (chain (patternsOf (now (set .entry))) (headOf (patternsOf (now (set .entry))) n))) ⌝ }
 {
     if ends == 0 {
-        return automaton_lookup::output(set, words, k, n, link);
+        return automaton_lookup::output(set, automaton, k, n, link);
     }
     n
 }
 
 // The number behind those of a node's children: that of the first child of the next node.
-fn children_end(set: &[u32], words: &[u32], k: usize, made: usize, node: usize) -> usize
-    requires { ⌜ Made (now set) (now words) made ⌝ }
-    requires { ⌜ (k ≡ length (patternsOf (now set))) × (node < made) ⌝ }
+fn children_end(set: &[u32], automaton: &[u32], k: usize, made: usize, node: usize) -> usize
+    requires { ⌜ Made (now set) (now automaton) k made ⌝ }
+    requires { ⌜ node < made ⌝ }
     ensures { λ r. ⌜ r ≡ firstChild (patternsOf (now (set .entry))) node + children (patternsOf (now (set .entry))) node ⌝ }
 {
-    let first = automaton_lookup::first_child(set, words, k, made, node);
-    let count = automaton_lookup::children(set, words, k, made, node);
+    let first = automaton_lookup::first_child(set, automaton, k, made, node);
+    let count = automaton_lookup::children(set, automaton, k, made, node);
     first + count
 }
 
@@ -232,74 +227,75 @@ fn record_from(
 // The record of node n, a child of `parent` whose first place is given, from the records before it.
 pub fn make_record(
     set: &[u32],
-    words: &[u32],
+    automaton: &[u32],
     k: usize,
     n: usize,
     parent: usize,
     place: usize,
 ) -> MadeRecord
-    requires { ⌜ Made (now set) (now words) n ⌝ }
-    requires { ⌜ (k ≡ length (patternsOf (now set))) × (0 < n) × (n < length (nodes (patternsOf (now set)))) ⌝ }
-    requires { ⌜ (firstChild (patternsOf (now set)) parent ≤ n) × (n < firstChild (patternsOf (now set)) parent + children (patternsOf (now set)) parent) ⌝ }
-    requires { ⌜ place ≡ firstPlace (patternsOf (now set)) (headOf (patternsOf (now set)) n) ⌝ }
+    requires { ⌜ Made (now set) (now automaton) k n ⌝ }
+    requires { ⌜ (0 < n) × (n < length (nodes (patternsOf (now set)))) ⌝ }
+    requires { ⌜ ChildNode (patternsOf (now set)) parent n ⌝ }
+    requires { ⌜ place ≡ placeOf (patternsOf (now set)) n ⌝ }
     ensures { λ r. ⌜ recordWords (r .record) ≡ recordOf (patternsOf (now (set .entry))) n ⌝ }
-    ensures { λ r. ⌜ r .end ≡ firstPlace (patternsOf (now (set .entry))) (headOf (patternsOf (now (set .entry))) n) + beginsAt (patternsOf (now (set .entry))) (headOf (patternsOf (now (set .entry))) n) ⌝ }
+    ensures { λ r. ⌜ r .end ≡ endOf (patternsOf (now (set .entry))) n ⌝ }
 {
-    let depth = automaton_lookup::depth(set, words, k, n, parent) + 1;
-    let label = label_of(set, words, k, n, place, depth);
-    let link = failure_of(set, words, k, n, parent, label);
-    let end = interval_end(set, words, k, n, place, depth);
-    let ends = count_ends(set, words, k, n, place, depth, end);
-    let output = output_of(set, words, k, n, link, ends);
-    let first = children_end(set, words, k, n, n - 1);
-    let count = count_children(set, words, k, n, place + ends, depth, end);
+    let depth = automaton_lookup::depth(set, automaton, k, n, parent) + 1;
+    let label = label_of(set, automaton, k, n, place, depth);
+    let link = failure_of(set, automaton, k, n, parent, label);
+    let end = interval_end(set, automaton, k, n, place, depth);
+    let ends = count_ends(set, automaton, k, n, place, depth, end);
+    let output = output_of(set, automaton, k, n, link, ends);
+    let first = children_end(set, automaton, k, n, n - 1);
+    let count = count_children(set, automaton, k, n, place + ends, depth, end);
     let record = record_from(depth, label, link, output, first, count, place, ends);
     MadeRecord { record, end }
 }
 
-// The parent of node n, from a node on whose first child is not behind n: the first one whose children do not all come before n.
+// The parent of node n, from a node on whose first child is not behind n: the first one whose
+// children do not all come before n.
 pub fn next_parent(
     set: &[u32],
-    words: &[u32],
+    automaton: &[u32],
     k: usize,
     made: usize,
     n: usize,
     parent: usize,
 ) -> usize
-    requires { ⌜ Made (now set) (now words) made ⌝ }
-    requires { ⌜ (k ≡ length (patternsOf (now set))) × (0 < n) × (n < length (nodes (patternsOf (now set)))) × (n ≤ made) ⌝ }
+    requires { ⌜ Made (now set) (now automaton) k made ⌝ }
+    requires { ⌜ (0 < n) × (n < length (nodes (patternsOf (now set)))) × (n ≤ made) ⌝ }
     requires { ⌜ firstChild (patternsOf (now set)) parent ≤ n ⌝ }
-    ensures { λ r. ⌜ r ≡ parentNode (patternsOf (now (set .entry))) n ⌝ }
-    ensures { λ r. ⌜ (firstChild (patternsOf (now (set .entry))) r ≤ n) × (n < firstChild (patternsOf (now (set .entry))) r + children (patternsOf (now (set .entry))) r) ⌝ }
+    ensures { λ r. ⌜ ChildNode (patternsOf (now (set .entry))) r n ⌝ }
 {
     let mut p = parent;
     loop {
-        if n < children_end(set, words, k, made, p) {
+        if n < children_end(set, automaton, k, made, p) {
             return p;
         }
         p += 1;
     }
 }
 
-// The first place of node n: behind the patterns that end at its parent where it is the first child, else where the node before it ends.
+// The first place of node n: behind the patterns that end at its parent where it is the first
+// child, else where the node before it ends.
 pub fn next_place(
     set: &[u32],
-    words: &[u32],
+    automaton: &[u32],
     k: usize,
     made: usize,
     n: usize,
     parent: usize,
     end: usize,
 ) -> usize
-    requires { ⌜ Made (now set) (now words) made ⌝ }
-    requires { ⌜ (k ≡ length (patternsOf (now set))) × (0 < n) × (n < length (nodes (patternsOf (now set)))) × (n ≤ made) ⌝ }
-    requires { ⌜ (firstChild (patternsOf (now set)) parent ≤ n) × (n < firstChild (patternsOf (now set)) parent + children (patternsOf (now set)) parent) ⌝ }
-    requires { ⌜ (firstChild (patternsOf (now set)) parent < n → end ≡ firstPlace (patternsOf (now set)) (headOf (patternsOf (now set)) (n - 1)) + beginsAt (patternsOf (now set)) (headOf (patternsOf (now set)) (n - 1))) ⌝ }
-    ensures { λ r. ⌜ r ≡ firstPlace (patternsOf (now (set .entry))) (headOf (patternsOf (now (set .entry))) n) ⌝ }
+    requires { ⌜ Made (now set) (now automaton) k made ⌝ }
+    requires { ⌜ (0 < n) × (n < length (nodes (patternsOf (now set)))) × (n ≤ made) ⌝ }
+    requires { ⌜ ChildNode (patternsOf (now set)) parent n ⌝ }
+    requires { ⌜ (firstChild (patternsOf (now set)) parent < n → end ≡ endOf (patternsOf (now set)) (n - 1)) ⌝ }
+    ensures { λ r. ⌜ r ≡ placeOf (patternsOf (now (set .entry))) n ⌝ }
 {
-    if n == automaton_lookup::first_child(set, words, k, made, parent) {
-        let place = automaton_lookup::first_place(set, words, k, made, parent);
-        let ends = automaton_lookup::ends(set, words, k, made, parent);
+    if n == automaton_lookup::first_child(set, automaton, k, made, parent) {
+        let place = automaton_lookup::first_place(set, automaton, k, made, parent);
+        let ends = automaton_lookup::ends(set, automaton, k, made, parent);
         return place + ends;
     }
     end

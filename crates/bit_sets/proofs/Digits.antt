@@ -1,23 +1,16 @@
--- A set by its lowest digit and the rest: m % 2 says whether 0 is in it, and m / 2 holds the other members, each less 1.
--- The size, the lowest member and the set without it follow by recursion on the count of digits.
-use mathlib.Core.Path.{_≡_, refl, sym, _∙_, ap, ap₂, subst}
-use mathlib.Core.Bool.{Bool, true, false, cond, _&&_, _||_, true≢false, false≢true}
-use mathlib.Core.Logic.{_⊎_, inl, inr}
-use mathlib.Core.List.{List, [], _∷_, map}
-use Prim.Native.Nat.{ℕ, zero, suc, _+_, _-_, _*_, _/_, _%_, _^_, _<_, min}
-use native.Mathlib.Nat.{pow-suc, div-one, add-zero, zero-min, min-zero}
-use native.Mathlib.Omega.{arith}
-use native.Mathlib.Numerals.{add-one}
-use lib.Dec.{eqb, eqb·zero-suc, eqb·suc-zero, eqb·suc-suc}
+-- A set by its lowest digit and the rest: m % 2 says whether 0 is in it, and m / 2 holds the other
+-- members, each less 1. The size, the lowest member and the set without it follow by recursion on
+-- the count of digits.
 use lib.Arith.{lt-one}
-use lib.Pow.{shr-shr, shr-lt}
 use lib.Bits.{bitAnd, bitOr, and-step, and-shr, or-shr, and-mod, or-mod, and-self}
 use lib.Count.{ones, ones-step, trailingZeros, under}
-use lib.ListN.{length, drop, length-map}
+use Rattle.lists.proofs.Prelude.{_≡_, _∙_, ap, sym, refl, subst, ap₂, inl, inr, _⊎_, Bool, false, cond, _&&_, _||_, List, [], _∷_, map, ℕ, zero, suc, min, _+_}
+use Rattle.lists.proofs.Prelude.{_-_, _*_, _/_, _%_, _^_, _<_, eqb, eqb·suc-zero, eqb·suc-suc, eqb·zero-suc, length, drop, length-map, shr-shr, shr-lt}
+use Rattle.lists.proofs.Prelude.{add-zero, pow-suc, div-one, zero-min, min-zero, add-one, arith, tabulate, select}
 use Rattle.lists.proofs.Select.{select-ext, select-map}
-use Rattle.lists.specs.Prelude.{tabulate, select}
+use Rattle.lists.proofs.Tables.{below-front}
+use Rattle.lists.proofs.Parts.{drop-one-map}
 use Rattle.bit_sets.specs.BitSets.{bitAt}
-use Rattle.bit_sets.proofs.More.{below-front, drop-one-map}
 
 -- the members below n, rising
 unfoldable pub bitsBelow : ℕ → ℕ → List ℕ
@@ -94,7 +87,8 @@ unfolding trailingZeros
 first-bitsBelow zero m p h = absurd (let z : ⊥ = omega (arith, lt-one h) in z)
 first-bitsBelow (suc n) m p h = go (digit m) (λ q. first-bitsBelow n (m / 2) q (half-lt n m h))
   where
-    go : (m % 2 ≡ 0) ⊎ (m % 2 ≡ 1) → (0 < m / 2 → (trailingZeros n (m / 2) < n) × (bitsBelow n (m / 2) ≡ trailingZeros n (m / 2) ∷ drop 1 (bitsBelow n (m / 2))))
+    go : (m % 2 ≡ 0) ⊎ (m % 2 ≡ 1) → (0 < m / 2 → (trailingZeros n (m / 2) < n) ×
+        (bitsBelow n (m / 2) ≡ trailingZeros n (m / 2) ∷ drop 1 (bitsBelow n (m / 2))))
         → (under (m % 2) (trailingZeros n (m / 2)) < suc n) × (bitsBelow (suc n) m ≡ under (m % 2) (trailingZeros n (m / 2)) ∷ drop 1 (bitsBelow (suc n) m))
     go (inl e) ih =
         let r = ih (omega arith) in
@@ -130,21 +124,6 @@ rest-bitsBelow (suc n) m p = go (digit m) (rest-bitsBelow n (m / 2))
         ∙ sym (ap (drop 1) (bitsBelow-even n m e) ∙ drop-one-map suc (bitsBelow n (m / 2)))
     go (inr e) ih = ap (bitsBelow (suc n)) (clear-odd m e) ∙ bitsBelow-double n (m / 2) ∙ sym (ap (drop 1) (bitsBelow-odd n m e))
 
--- ---- a number is its digits
-
-pub digits-ext : (n a b : ℕ) → a < 2 ^ n → b < 2 ^ n → ((j : ℕ) → j < n → bitAt a j ≡ bitAt b j) → a ≡ b
-digits-ext zero a b ha hb f = lt-one ha ∙ sym (lt-one hb)
-digits-ext (suc n) a b ha hb f =
-    let high : a / 2 ≡ b / 2 = digits-ext n (a / 2) (b / 2) (half-lt n a ha) (half-lt n b hb) (λ j h. sym (bitAt-suc a j) ∙ f (suc j) (omega arith) ∙ bitAt-suc b j) in
-    let low : a % 2 ≡ b % 2 = same (digit a) (digit b) (sym (bitAt-zero a) ∙ f 0 (omega arith) ∙ bitAt-zero b) in
-    omega arith
-  where
-    same : (a % 2 ≡ 0) ⊎ (a % 2 ≡ 1) → (b % 2 ≡ 0) ⊎ (b % 2 ≡ 1) → eqb (a % 2) 1 ≡ eqb (b % 2) 1 → a % 2 ≡ b % 2
-    same (inl p) (inl q) e = p ∙ sym q
-    same (inl p) (inr q) e = let z : _≡_ {A = Bool} false true = rw (p, q) at e in absurd (false≢true z)
-    same (inr p) (inl q) e = let z : _≡_ {A = Bool} true false = rw (p, q) at e in absurd (true≢false z)
-    same (inr p) (inr q) e = p ∙ sym q
-
 -- ---- the digits of a & b, of a | b and of 2 ^ i
 
 -- two tests of two digits agree where they agree on the four pairs
@@ -179,7 +158,11 @@ bitAt-none (suc j) = bitAt-suc 0 j ∙ bitAt-none j
 pub bitAt-pow : (i j : ℕ) → bitAt (2 ^ i) j ≡ eqb j i
 bitAt-pow zero zero = bitAt-zero 1
 bitAt-pow zero (suc j) = bitAt-suc 1 j ∙ bitAt-none j ∙ sym (eqb·suc-zero j)
-bitAt-pow (suc i) zero = bitAt-zero (2 ^ suc i) ∙ ap (λ (x : ℕ). eqb (x % 2) 1) (pow-suc 2 i) ∙ ap (λ (x : ℕ). eqb x 1) (let e : 2 ^ i * 2 % 2 ≡ 0 = omega arith in e) ∙ sym (eqb·zero-suc i)
+bitAt-pow (suc i) zero =
+    bitAt-zero (2 ^ suc i)
+    ∙ ap (λ (x : ℕ). eqb (x % 2) 1) (pow-suc 2 i)
+    ∙ ap (λ (x : ℕ). eqb x 1) (let e : 2 ^ i * 2 % 2 ≡ 0 = omega arith in e)
+    ∙ sym (eqb·zero-suc i)
 bitAt-pow (suc i) (suc j) =
     bitAt-suc (2 ^ suc i) j ∙ ap (λ (x : ℕ). bitAt (x / 2) j) (pow-suc 2 i) ∙ ap (λ (x : ℕ). bitAt x j) (let e : 2 ^ i * 2 / 2 ≡ 2 ^ i = omega arith in e)
     ∙ bitAt-pow i j ∙ sym (eqb·suc-suc j i)

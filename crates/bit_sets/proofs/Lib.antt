@@ -1,4 +1,3 @@
 -- The root of the crate's laws.
-pub mod More
 pub mod Digits
 pub mod Laws

@@ -1,10 +1,5 @@
 // A u64 as a set of numbers below 64: digit i is 1 where i is in the set.
-ghost use mathlib.Core.Bool.{_&&_, _||_};
-ghost use mathlib.Core.List.{_∷_};
-ghost use mathlib.Core.Path.{_≡_};
-ghost use Prim.Native.Nat.{ℕ, _<_};
-ghost use lib.Dec.{eqb};
-ghost use lib.ListN.{length, drop};
+ghost use Rattle.lists.specs.Prelude.{_≡_, _&&_, _||_, _∷_, ℕ, _<_, eqb, length, drop};
 ghost use Rattle.bit_sets.specs.BitSets.{bitAt, bits};
 
 // Whether i is in the set.

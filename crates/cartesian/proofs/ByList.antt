@@ -1,15 +1,7 @@
--- The distances by recursion on the list, nearest value first, for proofs by induction: `distances-list` says that they are the distances.
-use mathlib.Core.Path.{_≡_, refl, sym, _∙_, ap, ap₂}
-use mathlib.Core.Bool.{Bool, true, false, cond}
-use mathlib.Core.List.{List, [], _∷_, _++_}
-use Prim.Native.Nat.{ℕ, zero, suc, _+_, _-_, _≤_, _<_}
-use native.Mathlib.Omega.{arith}
-use native.Mathlib.Nat.{le-refl}
-use lib.IntN.{ℤ, pos}
-use lib.Signed.{leZ}
-use lib.ListN.{length, getD, take}
-use lib.Seq.{take-suc, take-length}
-use Rattle.lists.specs.Prelude.{tabulate, lastBelow}
+-- The distances by recursion on the list, nearest value first, for proofs by induction:
+-- `distances-list` says that they are the distances.
+use Rattle.lists.proofs.Prelude.{_≡_, _∙_, ap, sym, refl, Bool, true, false, cond, List, [], _∷_, _++_, ℕ, zero, suc, _+_, _-_, _≤_, ℤ, pos, leZ, length, getD}
+use Rattle.lists.proofs.Prelude.{take, take-suc, take-length, le-refl, arith, tabulate, lastBelow}
 use Rattle.cartesian.specs.Cartesian.{seek, gap, distanceAt, distances}
 use Rattle.cartesian.proofs.Seek.{seek-le}
 

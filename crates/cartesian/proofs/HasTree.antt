@@ -1,17 +1,9 @@
 -- The tree as a relation, for proofs by induction, and that `tree` computes it.
-use mathlib.Core.Path.{_≡_, refl, sym, _∙_, ap, ap₂, subst}
-use mathlib.Core.Bool.{Bool, true, false, cond, not}
-use mathlib.Core.Logic.{_⊎_, inl, inr, ⊎-elim}
-use mathlib.Core.List.{List, [], _∷_, _++_}
-use Prim.Native.Nat.{ℕ, zero, suc, _+_, _-_, _≤_, _<_}
-use native.Mathlib.Omega.{arith}
-use native.Mathlib.Nat.{add-zero, add-suc, le-refl}
-use borrow.Author.Tests.{not-true}
-use lib.IntN.{ℤ, pos}
-use lib.Signed.{leZ, ltZ, _≤ℤ_, _<ℤ_, ltZ-yes, ltZ-no, ≤ℤ-refl, <ℤ-≤ℤ-trans}
-use lib.ListN.{length, getD, take, drop, length-take, length-drop}
-use lib.Seq.{getD-take, getD-drop, split-at}
-use Rattle.lists.proofs.Order.{T-true, leZ-not-ltZ, le-leZ, <ℤ-≤ℤ}
+use Rattle.lists.proofs.Prelude.{_≡_, _∙_, ap, sym, refl, subst, ap₂, inl, inr, _⊎_, ⊎-elim, Bool, true, false, cond, not, List, [], _∷_, _++_, ℕ, zero, suc}
+use Rattle.lists.proofs.Prelude.{_+_, _≤_, _<_, ℤ, pos, ltZ, _≤ℤ_, _<ℤ_, ltZ-yes, ≤ℤ-refl, <ℤ-≤ℤ-trans, ltZ-no, length, getD, take, drop, length-take}
+use Rattle.lists.proofs.Prelude.{length-drop, getD-take, getD-drop, split-at, le-refl, add-zero, add-suc, arith, not-true}
+use Rattle.lists.proofs.Tests.{T-true}
+use Rattle.lists.proofs.Order.{leZ-not-ltZ, le-leZ, <ℤ-≤ℤ}
 use Rattle.cartesian.specs.Cartesian.{Tree, leaf, node, leftmostFrom, leftmost, treeWithin, tree}
 
 -- of two equal values the earlier one is the root
@@ -37,7 +29,8 @@ unfolding leftmostFrom
 leftmostFrom-lt m b i [] h = omega arith
 leftmostFrom-lt m b i (x ∷ xs) h = go (ltZ x m) (leftmostFrom-lt x i (suc i) xs (omega arith)) (leftmostFrom-lt m b (suc i) xs (omega arith))
   where
-    go : (t : Bool) → leftmostFrom x i (suc i) xs < suc i + length xs → leftmostFrom m b (suc i) xs < suc i + length xs → cond t (leftmostFrom x i (suc i) xs) (leftmostFrom m b (suc i) xs) < i + suc (length xs)
+    go : (t : Bool) → leftmostFrom x i (suc i) xs < suc i + length xs → leftmostFrom m b (suc i) xs < suc i + length xs
+        → cond t (leftmostFrom x i (suc i) xs) (leftmostFrom m b (suc i) xs) < i + suc (length xs)
     go true p q = omega arith
     go false p q = omega arith
 
@@ -70,7 +63,8 @@ tree-cons x xs =
     let q = leftmost-lt x xs in
     let lt : length (take p (x ∷ xs)) ≤ length xs = simp length-take (omega arith) in
     let ld : length (drop (suc p) (x ∷ xs)) ≤ length xs = simp length-drop (omega arith) in
-    ap₂ node (treeWithin-more (length xs) (length (take p (x ∷ xs))) (take p (x ∷ xs)) lt (le-refl _)) (treeWithin-more (length xs) (length (drop (suc p) (x ∷ xs))) (drop (suc p) (x ∷ xs)) ld (le-refl _))
+    ap₂ node (treeWithin-more (length xs) (length (take p (x ∷ xs))) (take p (x ∷ xs)) lt (le-refl _))
+    (treeWithin-more (length xs) (length (drop (suc p) (x ∷ xs))) (drop (suc p) (x ∷ xs)) ld (le-refl _))
 
 -- every place below n
 below-suc : (P : ℕ → Type 0) (n : ℕ) → ((j : ℕ) → j < n → P j) → P n → (j : ℕ) → j < suc n → P j
@@ -86,7 +80,8 @@ below-suc P n f p j h = ⊎-elim (λ l. f j l) (λ e. subst P (sym e) p) (lt-or-
 abbrev Best : List ℤ → ℕ → ℕ → Type 0
 Best L p n = ((j : ℕ) → j < p → getD L p (pos 0) <ℤ getD L j (pos 0)) × ((j : ℕ) → j < n → getD L p (pos 0) ≤ℤ getD L j (pos 0))
 
-leftmostFrom-best : (L : List ℤ) (b i : ℕ) (xs : List ℤ) → ((j : ℕ) → getD xs j (pos 0) ≡ getD L (i + j) (pos 0)) → Best L b i → Best L (leftmostFrom (getD L b (pos 0)) b i xs) (i + length xs)
+leftmostFrom-best : (L : List ℤ) (b i : ℕ) (xs : List ℤ) → ((j : ℕ) → getD xs j (pos 0) ≡ getD L (i + j) (pos 0)) → Best L b i
+    → Best L (leftmostFrom (getD L b (pos 0)) b i xs) (i + length xs)
 unfolding leftmostFrom
 leftmostFrom-best L b i [] s h = rw add-zero h
 leftmostFrom-best L b i (x ∷ xs) s h =
@@ -101,7 +96,9 @@ leftmostFrom-best L b i (x ∷ xs) s h =
         → Best L (cond t (leftmostFrom (getD L i (pos 0)) i (suc i) xs) (leftmostFrom (getD L b (pos 0)) b (suc i) xs)) (suc (i + length xs))
     go true q f g =
         let lt : getD L i (pos 0) <ℤ getD L b (pos 0) = ltZ-yes (T-true (ltZ (getD L i (pos 0)) (getD L b (pos 0))) q) in
-        let r = f (λ j l. <ℤ-≤ℤ-trans lt (h .1 j l), below-suc (λ (j : ℕ). getD L i (pos 0) ≤ℤ getD L j (pos 0)) i (λ j l. <ℤ-≤ℤ (<ℤ-≤ℤ-trans lt (h .1 j l))) (≤ℤ-refl (getD L i (pos 0)))) in
+        let low : (j : ℕ) → j < suc i → getD L i (pos 0) ≤ℤ getD L j (pos 0) =
+        below-suc (λ (j : ℕ). getD L i (pos 0) ≤ℤ getD L j (pos 0)) i (λ j l. <ℤ-≤ℤ (<ℤ-≤ℤ-trans lt (h .1 j l))) (≤ℤ-refl (getD L i (pos 0))) in
+        let r = f (λ j l. <ℤ-≤ℤ-trans lt (h .1 j l), low) in
         (r .0, λ j l. r .1 j (omega arith))
     go false q f g =
         let le : getD L b (pos 0) ≤ℤ getD L i (pos 0) = ltZ-no (T-true (not (ltZ (getD L i (pos 0)) (getD L b (pos 0)))) (ap not q)) in

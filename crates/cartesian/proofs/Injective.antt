@@ -1,12 +1,6 @@
 -- The tree is a function of the distances: one list of distances has one tree.
-use mathlib.Core.Path.{_≡_, refl, sym, _∙_, ap, ap₂, subst}
-use mathlib.Core.Bool.{Bool, true, false, cond}
-use mathlib.Core.List.{List, [], _∷_, _++_, nil≢cons, cons≢nil, head-eq-of-cons-eq, tail-eq-of-cons-eq}
-use Prim.Native.Nat.{ℕ, zero, suc, _+_, _≤_, _<_, zero-le}
-use native.Mathlib.Omega.{arith}
-use native.Mathlib.Nat.{add-zero, add-suc, le-refl}
-use lib.IntN.{ℤ}
-use lib.ListN.{length}
+use Rattle.lists.proofs.Prelude.{getD, _≤_, _+_, arith, zero, suc, _≡_, _∙_, sym, refl, subst, ap₂, List, [], _∷_, _++_, nil≢cons, cons≢nil, head-eq-of-cons-eq}
+use Rattle.lists.proofs.Prelude.{tail-eq-of-cons-eq, ℕ, zero-le, ℤ, length, le-refl, add-zero}
 use Rattle.cartesian.specs.Cartesian.{distances, Tree, leaf, node}
 use Rattle.cartesian.proofs.HasTree.{HasTree}
 use Rattle.cartesian.proofs.Structure.{orElse, lift, treeDistances, distances-tree}
@@ -62,7 +56,8 @@ pub treeDistances-ok : (t : Tree) → Ok 0 (treeDistances t)
 unfolding treeDistances
 treeDistances-ok leaf = tt
 treeDistances-ok (node l r) =
-    ok-app 0 (treeDistances l) (0 ∷ lift 1 (treeDistances r)) (treeDistances-ok l) (zero-le, ok-more 1 (suc (0 + length (treeDistances l))) (lift 1 (treeDistances r)) (omega arith) (ok-lift 0 (treeDistances r) (treeDistances-ok r)))
+    ok-app 0 (treeDistances l) (0 ∷ lift 1 (treeDistances r)) (treeDistances-ok l)
+    (zero-le, ok-more 1 (suc (0 + length (treeDistances l))) (lift 1 (treeDistances r)) (omega arith) (ok-lift 0 (treeDistances r) (treeDistances-ok r)))
 
 or-inj : (k d e : ℕ) → d ≤ k → e ≤ k → orElse d (suc k) ≡ orElse e (suc k) → d ≡ e
 or-inj k zero zero hd he p = refl
@@ -88,9 +83,18 @@ treeDistances-injective leaf leaf e = refl
 treeDistances-injective leaf (node l r) e = absurd (no-nil (treeDistances l) (lift 1 (treeDistances r)) e)
 treeDistances-injective (node l r) leaf e = absurd (no-nil (treeDistances l) (lift 1 (treeDistances r)) (sym e))
 treeDistances-injective (node l r) (node m s) e =
-    let p = split (treeDistances l) (treeDistances m) (lift 1 (treeDistances r)) (lift 1 (treeDistances s)) (lift-nz 0 (treeDistances r)) (lift-nz 0 (treeDistances s)) e in
-    ap₂ node (treeDistances-injective l m (p .0)) (treeDistances-injective r s (lift-inj 0 (treeDistances r) (treeDistances s) (treeDistances-ok r) (treeDistances-ok s) (p .1)))
+    let p =
+    split (treeDistances l) (treeDistances m) (lift 1 (treeDistances r)) (lift 1 (treeDistances s)) (lift-nz 0 (treeDistances r))
+    (lift-nz 0 (treeDistances s)) e in
+    ap₂ node (treeDistances-injective l m (p .0))
+    (treeDistances-injective r s (lift-inj 0 (treeDistances r) (treeDistances s) (treeDistances-ok r) (treeDistances-ok s) (p .1)))
 
 -- two lists match exactly where their distances are equal
 pub same-distances : {xs ys : List ℤ} {t u : Tree} → HasTree xs t → HasTree ys u → distances xs ≡ distances ys → t ≡ u
 same-distances {t = t} {u = u} h k e = treeDistances-injective t u (sym (distances-tree h) ∙ e ∙ distances-tree k)
+
+-- each distance of such a list leads to one of the k places before it, or to a place of the list
+pub ok-at : (k : ℕ) (ds : List ℕ) (j : ℕ) → Ok k ds → getD ds j 0 ≤ k + j
+ok-at k [] j o = omega arith
+ok-at k (d ∷ ds) zero o = omega (arith, o .0)
+ok-at k (d ∷ ds) (suc j) o = omega (arith, ok-at (suc k) ds j (o .1))

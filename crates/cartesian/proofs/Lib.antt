@@ -7,3 +7,4 @@ pub mod Injective
 pub mod Matching
 pub mod Window
 pub mod TreeOf
+pub mod Sizes

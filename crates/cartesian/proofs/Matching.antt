@@ -1,11 +1,7 @@
--- THE MATCHING LAW: two lists have equal trees exactly if their distances are equal. And that `sameTree` decides equality.
-use mathlib.Core.Path.{_≡_, refl, sym, _∙_, ap, ap₂, subst}
-use mathlib.Core.Bool.{_&&_}
-use mathlib.Core.Logic.{_↔_}
-use mathlib.Core.List.{List}
-use lib.IntN.{ℤ}
-use lib.Dec.{T}
-use Rattle.lists.proofs.Lists.{and-split, and-join}
+-- THE MATCHING LAW: two lists have equal trees exactly if their distances are equal. And that
+-- `sameTree` decides equality.
+use Rattle.lists.proofs.Prelude.{_≡_, sym, refl, subst, ap₂, _↔_, List, ℤ, T}
+use Rattle.lists.proofs.Tests.{and-split, and-join}
 use Rattle.cartesian.specs.Cartesian.{Tree, leaf, node, tree, sameTree, distances}
 use Rattle.cartesian.proofs.HasTree.{HasTree, tree-has}
 use Rattle.cartesian.proofs.Structure.{same-tree}

@@ -1,19 +1,10 @@
--- Laws of `seek` and of the parent distance at a place: bounds, windows, and known distances as links.
-use mathlib.Core.Path.{_≡_, refl, sym, _∙_, ap}
-use mathlib.Core.Bool.{Bool, true, false, cond, not}
-use mathlib.Core.List.{List, [], _∷_, _++_}
-use Prim.Native.Nat.{ℕ, zero, suc, _+_, _-_, _≤_, _<_, zero-le}
-use native.Mathlib.Omega.{arith}
-use native.Mathlib.Nat.{add-zero, add-suc}
-use borrow.Author.Tests.{le-leb, lt-leb}
-use lib.IntN.{ℤ, pos}
-use lib.Dec.{leb}
-use lib.Signed.{leZ, ltZ, _≤ℤ_, _<ℤ_, ltZ-yes, ≤ℤ-refl, <ℤ-≤ℤ-trans}
-use lib.ListN.{length, getD, drop}
-use lib.Seq.{getD-drop}
-use Rattle.lists.specs.Prelude.{lastBelow, tabulate}
-use Rattle.lists.proofs.Lists.{lastBelow-le, lastBelow-no, length-tabulate, getD-tabulate}
-use Rattle.lists.proofs.Order.{T-true, leZ-not-ltZ, le-leZ, lt-leZ, <ℤ-≤ℤ}
+-- Laws of `seek` and of the parent distance at a place: bounds, windows, and known distances as
+-- links.
+use Rattle.lists.proofs.Order.{leZ-above, le-leZ, lt-leZ, <ℤ-≤ℤ}
+use Rattle.lists.proofs.Prelude.{_≡_, _∙_, ap, sym, refl, Bool, true, false, cond, List, [], _∷_, ℕ, zero, suc, _+_, _-_, _≤_, _<_, zero-le, ℤ, pos, leZ, _<ℤ_}
+use Rattle.lists.proofs.Prelude.{≤ℤ-refl, <ℤ-≤ℤ-trans, length, getD, drop, getD-drop, add-zero, add-suc, arith, le-leb, lt-leb, tabulate, lastBelow}
+use Rattle.lists.proofs.LastBelow.{lastBelow-le, lastBelow-no}
+use Rattle.lists.proofs.Tables.{length-tabulate, getD-tabulate}
 use Rattle.cartesian.specs.Cartesian.{seek, gap, distanceAt, distances, cut}
 
 -- of two equal values the later one does not close the earlier one
@@ -47,7 +38,8 @@ dist-some s i k e z = gap-some i k z ∙ ap (gap i) e
 
 -- ---- a window: the values from a on
 
--- one more than the place in the whole, of one more than the place in the window; q where the window has none
+-- one more than the place in the whole, of one more than the place in the window; q where the
+-- window has none
 abbrev inWhole : ℕ → ℕ → ℕ → ℕ
 inWhole a q zero = q
 inWhole a q (suc j) = suc (a + j)
@@ -57,7 +49,8 @@ unfolding lastBelow
 seek-drop s a x zero = rw add-zero refl
 seek-drop s a x (suc i) = rw (add-suc, getD-drop) (go (leZ (getD s (a + i) (pos 0)) x) (seek-drop s a x i))
   where
-    go : (b : Bool) → seek s x (a + i) ≡ inWhole a (seek s x a) (seek (drop a s) x i) → cond b (suc (a + i)) (seek s x (a + i)) ≡ inWhole a (seek s x a) (cond b (suc i) (seek (drop a s) x i))
+    go : (b : Bool) → seek s x (a + i) ≡ inWhole a (seek s x a) (seek (drop a s) x i)
+        → cond b (suc (a + i)) (seek s x (a + i)) ≡ inWhole a (seek s x a) (cond b (suc i) (seek (drop a s) x i))
     go true e = refl
     go false e = e
 
@@ -77,14 +70,6 @@ distanceAt-drop s a i =
 
 -- ---- known distances as links
 
--- a failed test, as a fact
-above : (a b : ℤ) → leZ a b ≡ false → b <ℤ a
-above a b e = go (ltZ b a) refl
-  where
-    go : (t : Bool) → ltZ b a ≡ t → b <ℤ a
-    go true q = ltZ-yes (T-true (ltZ b a) q)
-    go false q = let z : true ≡ false = sym (leZ-not-ltZ a b ∙ ap not q) ∙ e in absurd (let w : _≡_ {A = ℕ} 0 1 = cc in let u : ⊥ = omega arith in u)
-
 skip : (s : List ℤ) (x y : ℤ) (n : ℕ) → x <ℤ y → seek s x n ≡ seek s x (seek s y n)
 unfolding lastBelow
 skip s x y zero h = refl
@@ -92,10 +77,10 @@ skip s x y (suc n) h = go (leZ (getD s n (pos 0)) y) refl (skip s x y n h)
   where
     go : (b : Bool) → leZ (getD s n (pos 0)) y ≡ b → seek s x n ≡ seek s x (seek s y n) → seek s x (suc n) ≡ seek s x (cond b (suc n) (seek s y n))
     go true e ih = refl
-    go false e ih = rw (lt-leZ (<ℤ-≤ℤ-trans h (<ℤ-≤ℤ (above (getD s n (pos 0)) y e)))) ih
+    go false e ih = rw (lt-leZ (<ℤ-≤ℤ-trans h (<ℤ-≤ℤ (leZ-above (getD s n (pos 0)) y e)))) ih
 
 jump : (s : List ℤ) (x : ℤ) (k : ℕ) → 0 < k → leZ (getD s (k - 1) (pos 0)) x ≡ false → seek s x k ≡ seek s x (seek s (getD s (k - 1) (pos 0)) (k - 1))
-jump s x k h e = lastBelow-no (λ j. leZ (getD s j (pos 0)) x) k h e ∙ skip s x (getD s (k - 1) (pos 0)) (k - 1) (above (getD s (k - 1) (pos 0)) x e)
+jump s x k h e = lastBelow-no (λ j. leZ (getD s j (pos 0)) x) k h e ∙ skip s x (getD s (k - 1) (pos 0)) (k - 1) (leZ-above (getD s (k - 1) (pos 0)) x e)
 
 -- a distance gives its link back
 gap-none : (n q : ℕ) → q ≤ n → gap n q ≡ 0 → q ≡ 0
@@ -119,7 +104,8 @@ unfolding distanceAt lastBelow
 jump-none s x k d h e p z =
     sym (jump s x k h e ∙ ap (seek s x) (gap-none (k - 1) (seek s (getD s (k - 1) (pos 0)) (k - 1)) (seek-le s (getD s (k - 1) (pos 0)) (k - 1)) (sym p ∙ z)))
 
-pub jump-some : (s : List ℤ) (x : ℤ) (k d : ℕ) → 0 < k → leZ (getD s (k - 1) (pos 0)) x ≡ false → d ≡ distanceAt s (k - 1) → (d ≡ 0 → ⊥) → seek s x k ≡ seek s x (k - d)
+pub jump-some : (s : List ℤ) (x : ℤ) (k d : ℕ) → 0 < k → leZ (getD s (k - 1) (pos 0)) x ≡ false → d ≡ distanceAt s (k - 1) → (d ≡ 0 → ⊥)
+    → seek s x k ≡ seek s x (k - d)
 unfolding distanceAt
 jump-some s x k d h e p z =
     let q = seek s (getD s (k - 1) (pos 0)) (k - 1) in

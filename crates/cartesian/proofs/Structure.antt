@@ -1,13 +1,7 @@
 -- The distances are a function of the tree: two lists with one tree have one list of distances.
-use mathlib.Core.Path.{_≡_, refl, sym, _∙_, ap, ap₂}
-use mathlib.Core.Bool.{Bool, true, false, cond}
-use mathlib.Core.List.{List, [], _∷_, _++_}
-use Prim.Native.Nat.{ℕ, zero, suc, _+_, _≤_, _<_}
-use native.Mathlib.Omega.{arith}
-use native.Mathlib.Nat.{add-zero}
-use lib.IntN.{ℤ}
-use lib.Signed.{leZ, _≤ℤ_, _<ℤ_}
-use lib.ListN.{length, getD, length-append}
+use Rattle.lists.proofs.Places.{getD-before, getD-after}
+use Rattle.lists.proofs.Prelude.{getD-at, _≡_, _∙_, ap, sym, refl, ap₂, Bool, true, false, cond, List, [], _∷_, _++_, ℕ, zero, suc, _+_, _<_, ℤ, leZ, _≤ℤ_}
+use Rattle.lists.proofs.Prelude.{_<ℤ_, length, getD, length-append, add-zero, arith}
 use Rattle.lists.proofs.Order.{le-leZ, lt-leZ}
 use Rattle.cartesian.specs.Cartesian.{Tree, leaf, node, size, distances}
 use Rattle.cartesian.proofs.ByList.{back, distsFrom, onto, dists-app, distances-list}
@@ -18,7 +12,8 @@ abbrev pub orElse : ℕ → ℕ → ℕ
 orElse zero b = b
 orElse (suc a) b = suc a
 
--- the distances of what stands after a smaller or equal value: each 0 becomes the distance to that value
+-- the distances of what stands after a smaller or equal value: each 0 becomes the distance to that
+-- value
 unfoldable pub lift : ℕ → List ℕ → List ℕ
 lift k [] = []
 lift k (d ∷ ds) = orElse d k ∷ lift (suc k) ds
@@ -39,7 +34,8 @@ unfolding back
 back-app [] z x y k e = rw e (sym (add-zero (suc k)))
 back-app (w ∷ q) z x y k e = go (leZ w y) (back-app q z x y (suc k) e)
   where
-    go : (b : Bool) → back (q ++ (x ∷ z)) y (suc (suc k)) ≡ orElse (back q y (suc (suc k))) (suc (suc k) + length q) → cond b (suc k) (back (q ++ (x ∷ z)) y (suc (suc k))) ≡ orElse (cond b (suc k) (back q y (suc (suc k)))) (suc k + suc (length q))
+    go : (b : Bool) → back (q ++ (x ∷ z)) y (suc (suc k)) ≡ orElse (back q y (suc (suc k))) (suc (suc k) + length q)
+        → cond b (suc k) (back (q ++ (x ∷ z)) y (suc (suc k))) ≡ orElse (cond b (suc k) (back q y (suc (suc k)))) (suc k + suc (length q))
     go true h = refl
     go false h = h ∙ ap (orElse (back q y (suc (suc k)))) (omega arith)
 
@@ -60,7 +56,8 @@ unfolding onto
 over-onto [] rev over-nil k = k
 over-onto (x ∷ xs) rev (over-cons h hs) k = over-onto xs (x ∷ rev) hs (over-cons h k)
 
-dists-node : (l r : List ℤ) (x : ℤ) → Over (λ (y : ℤ). x <ℤ y) l → Over (λ (y : ℤ). x ≤ℤ y) r → distsFrom [] (l ++ (x ∷ r)) ≡ distsFrom [] l ++ (0 ∷ lift 1 (distsFrom [] r))
+dists-node : (l r : List ℤ) (x : ℤ) → Over (λ (y : ℤ). x <ℤ y) l → Over (λ (y : ℤ). x ≤ℤ y) r
+    → distsFrom [] (l ++ (x ∷ r)) ≡ distsFrom [] l ++ (0 ∷ lift 1 (distsFrom [] r))
 unfolding distsFrom
 dists-node l r x hl hr =
     dists-app [] l (x ∷ r)
@@ -91,3 +88,20 @@ pub length-treeDistances : (t : Tree) → length (treeDistances t) ≡ size t
 unfolding treeDistances size
 length-treeDistances leaf = refl
 length-treeDistances (node l r) = rw (length-append, length-lift, length-treeDistances l, length-treeDistances r) refl
+
+-- ---- the distances of a node: at a place on its left, at its root, at a place on its right
+
+pub distance-left : (l r : Tree) (k : ℕ) → k < size l → getD (treeDistances (node l r)) k 0 ≡ getD (treeDistances l) k 0
+unfolding treeDistances
+distance-left l r k h = getD-before (treeDistances l) 0 (lift 1 (treeDistances r)) 0 (size l) k (length-treeDistances l) h
+
+pub distance-root : (l r : Tree) → getD (treeDistances (node l r)) (size l) 0 ≡ 0
+unfolding treeDistances
+distance-root l r = getD-at (treeDistances l) 0 (lift 1 (treeDistances r)) 0 (size l) (length-treeDistances l)
+
+pub distance-right : (l r : Tree) (k : ℕ) → k < size r → getD (treeDistances (node l r)) (size l + suc k) 0 ≡ orElse (getD (treeDistances r) k 0) (suc k)
+unfolding treeDistances
+distance-right l r k h =
+    getD-after (treeDistances l) 0 (lift 1 (treeDistances r)) 0 (size l) k (length-treeDistances l)
+    ∙ getD-lift 1 (treeDistances r) k (rw length-treeDistances h)
+    ∙ ap (orElse (getD (treeDistances r) k 0)) (omega arith)

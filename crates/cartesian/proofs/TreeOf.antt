@@ -1,20 +1,12 @@
--- The tree of a list of distances is the tree of the values that have them: the last 0 is the root, and what is after it is a window.
-use mathlib.Core.Path.{_≡_, refl, sym, _∙_, ap, ap₂, subst}
-use mathlib.Core.Bool.{Bool, true, false, cond}
-use mathlib.Core.List.{List, [], _∷_, _++_}
-use Prim.Native.Nat.{ℕ, zero, suc, pred, _+_, _-_, _≤_, _<_}
-use native.Mathlib.Omega.{arith}
-use native.Mathlib.Nat.{le-refl}
-use borrow.Author.Tests.{le-leb, lt-leb}
-use lib.Dec.{T, eqb, eqb→eq, leb}
-use lib.IntN.{ℤ}
-use lib.ListN.{length, getD, take, drop, length-append, length-take, length-drop}
-use lib.Seq.{take-append-seam, drop-append-add, getD-append-seam, getD-append-add}
-use Rattle.lists.specs.Prelude.{lastBelow}
-use Rattle.lists.proofs.Lists.{lastBelow-le, lastBelow-is}
-use Rattle.cartesian.specs.Cartesian.{Tree, leaf, node, tree, distances, cut, cutFrom, rootPlace, treeOfWithin, treeOf}
+-- The tree of a list of distances is the tree of the values that have them: the last 0 is the root,
+-- and what is after it is a window.
+use Rattle.lists.proofs.Prelude.{_≡_, _∙_, ap, sym, refl, ap₂, List, [], _∷_, _++_, ℕ, zero, suc, pred, _+_, _-_, _≤_, _<_, ℤ, eqb, eqb→eq, length, getD, take}
+use Rattle.lists.proofs.Prelude.{drop, length-append, length-take, length-drop, take-append-seam, drop-append-add, getD-append-add, getD-append-seam, le-refl}
+use Rattle.lists.proofs.Prelude.{arith, le-leb, lt-leb, lastBelow}
+use Rattle.lists.proofs.LastBelow.{lastBelow-le, lastBelow-is}
+use Rattle.cartesian.specs.Cartesian.{Tree, leaf, node, tree, distances, cutFrom, rootPlace, treeOfWithin, treeOf}
 use Rattle.cartesian.proofs.HasTree.{tree-has}
-use Rattle.cartesian.proofs.Structure.{orElse, lift, treeDistances, distances-tree}
+use Rattle.cartesian.proofs.Structure.{lift, treeDistances, distances-tree}
 use Rattle.cartesian.proofs.Injective.{NZ, lift-nz, Ok, treeDistances-ok}
 use Rattle.cartesian.proofs.Window.{length-cutFrom}
 
@@ -46,15 +38,18 @@ treeOfWithin-more (suc n) (suc m) (x ∷ ds) h k =
     let p = rootPlace (x ∷ ds) in
     let a = length-left p x ds (rootPlace-lt x ds) in
     let b = length-right p x ds in
-    ap₂ node (treeOfWithin-more n m (take p (x ∷ ds)) (omega arith) (omega arith)) (treeOfWithin-more n m (cutFrom 0 (drop (suc p) (x ∷ ds))) (omega arith) (omega arith))
+    ap₂ node (treeOfWithin-more n m (take p (x ∷ ds)) (omega arith) (omega arith))
+    (treeOfWithin-more n m (cutFrom 0 (drop (suc p) (x ∷ ds))) (omega arith) (omega arith))
 
-pub treeOf-cons : (d : ℕ) (ds : List ℕ) → treeOf (d ∷ ds) ≡ node (treeOf (take (rootPlace (d ∷ ds)) (d ∷ ds))) (treeOf (cutFrom 0 (drop (suc (rootPlace (d ∷ ds))) (d ∷ ds))))
+pub treeOf-cons : (d : ℕ) (ds : List ℕ) → treeOf (d ∷ ds) ≡ node (treeOf (take (rootPlace (d ∷ ds)) (d ∷ ds)))
+    (treeOf (cutFrom 0 (drop (suc (rootPlace (d ∷ ds))) (d ∷ ds))))
 unfolding treeOf treeOfWithin
 treeOf-cons d ds =
     let p = rootPlace (d ∷ ds) in
     let a = length-left p d ds (rootPlace-lt d ds) in
     let b = length-right p d ds in
-    ap₂ node (treeOfWithin-more (length ds) (length (take p (d ∷ ds))) (take p (d ∷ ds)) a (le-refl _)) (treeOfWithin-more (length ds) (length (cutFrom 0 (drop (suc p) (d ∷ ds)))) (cutFrom 0 (drop (suc p) (d ∷ ds))) b (le-refl _))
+    ap₂ node (treeOfWithin-more (length ds) (length (take p (d ∷ ds))) (take p (d ∷ ds)) a (le-refl _))
+    (treeOfWithin-more (length ds) (length (cutFrom 0 (drop (suc p) (d ∷ ds)))) (cutFrom 0 (drop (suc p) (d ∷ ds))) b (le-refl _))
 
 treeOf-some : (ds : List ℕ) → 0 < length ds → treeOf ds ≡ node (treeOf (take (rootPlace ds) ds)) (treeOf (cutFrom 0 (drop (suc (rootPlace ds)) ds)))
 treeOf-some [] h = absurd (let z : ⊥ = omega arith in z)

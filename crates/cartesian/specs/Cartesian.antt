@@ -1,5 +1,7 @@
--- Cartesian trees, parent distances, parent distances in a window, and the tree that a list of distances stands for. Document 01: Tree; Distance; Distances of a window.
-use Rattle.lists.specs.Prelude.{Bool, true, false, cond, _&&_, List, [], _∷_, ℕ, zero, suc, pred, _+_, _-_, eqb, leb, ℤ, pos, leZ, ltZ, length, getD, take, drop, tabulate, lastBelow}
+-- Cartesian trees, parent distances, parent distances in a window, and the tree that a list of
+-- distances stands for. Document 01: Tree; Distance; Distances of a window.
+use Rattle.lists.specs.Prelude.{Bool, true, false, cond, _&&_, List, [], _∷_, ℕ, zero, suc, pred, _+_, _-_, eqb, leb, ℤ, pos, leZ, ltZ, length, getD, take}
+use Rattle.lists.specs.Prelude.{drop, tabulate, lastBelow}
 
 -- ---- Cartesian trees. Document 01: Tree.
 
@@ -12,7 +14,8 @@ unfoldable pub size : Tree → ℕ
 size leaf = 0
 size (node l r) = size l + suc (size r)
 
--- the place of the leftmost lowest value, where m, at place b, is the leftmost lowest so far and the list goes on at place i
+-- the place of the leftmost lowest value, where m, at place b, is the leftmost lowest so far and
+-- the list goes on at place i
 unfoldable pub leftmostFrom : ℤ → ℕ → ℕ → List ℤ → ℕ
 leftmostFrom m b i [] = b
 leftmostFrom m b i (x ∷ xs) = cond (ltZ x m) (leftmostFrom x i (suc i) xs) (leftmostFrom m b (suc i) xs)
@@ -30,7 +33,8 @@ treeWithin (suc n) (x ∷ xs) =
     let p = leftmost (x ∷ xs) in
     node (treeWithin n (take p (x ∷ xs))) (treeWithin n (drop (suc p) (x ∷ xs)))
 
--- the Cartesian tree: the root is the leftmost lowest value, with the tree of what is before it on its left and of what is after it on its right
+-- the Cartesian tree: the root is the leftmost lowest value, with the tree of what is before it on
+-- its left and of what is after it on its right
 unfoldable pub tree : List ℤ → Tree
 tree xs = treeWithin (length xs) xs
 
@@ -41,7 +45,8 @@ sameTree leaf (node m s) = false
 sameTree (node l r) leaf = false
 sameTree (node l r) (node m s) = sameTree l m && sameTree r s
 
--- ---- Parent distances, and parent distances in a window. Document 01: Distance; Distances of a window.
+-- ---- Parent distances, and parent distances in a window. Document 01: Distance; Distances of a
+-- window.
 
 -- one more than the greatest place below n whose value is not above x; 0 where there is none
 abbrev pub seek : List ℤ → ℤ → ℕ → ℕ
@@ -68,9 +73,11 @@ unfoldable pub cutFrom : ℕ → List ℕ → List ℕ
 cutFrom i [] = []
 cutFrom i (v ∷ vs) = cut i v ∷ cutFrom (suc i) vs
 
--- ---- The tree that a list of parent distances stands for: the tree of any values that have these distances (law `treeOf-distances`).
+-- ---- The tree that a list of parent distances stands for: the tree of any values that have these
+-- distances (law `treeOf-distances`).
 
--- the root's place: the last one with distance 0, as no value before it is as low and none after it is lower
+-- the root's place: the last one with distance 0, as no value before it is as low and none after it
+-- is lower
 unfoldable pub rootPlace : List ℕ → ℕ
 rootPlace ds = pred (lastBelow (λ j. eqb (getD ds j 1) 0) (length ds))
 

@@ -1,5 +1,12 @@
-// Numbers of a test program's input: arrays read from it, and arrays compared with it. All numbers are decimal.
-ghost use Prim.Native.Nat.{_≤_, _<_};
+// Cases of a test program's input: numbers and arrays read from it, arrays compared with it, and
+// the way from case to case. All numbers are decimal.
+ghost use Rattle.lists.specs.Prelude.{_+_, _≤_, _<_};
+use answers::Written;
+use test_inputs::difference;
+use test_inputs::difference::Difference;
+use test_inputs::expect;
+use test_inputs::tally;
+use test_inputs::tally::Tally;
 
 // A number of the input, and the place behind it.
 pub struct Token {
@@ -8,10 +15,28 @@ pub struct Token {
     pub negative: bool,
 }
 
-// What came of a case, and the place behind it.
+// What differs in a case, and the place behind it.
 pub struct Outcome {
     pub at: usize,
-    pub good: bool,
+    pub difference: Difference,
+}
+
+// The refusal and the count that are expected, and the place behind them.
+pub struct Expected {
+    pub at: usize,
+    pub refusal: u64,
+    pub count: u64,
+}
+
+// A case that is reached: its first number and the place behind that, the line that it begins on,
+// how many cases may be run from it on, and what was counted before it. At the end of the input
+// none may be run.
+pub struct Reached {
+    pub at: usize,
+    pub first: u64,
+    pub left: usize,
+    pub line: usize,
+    pub tally: Tally,
 }
 
 // The place of the next byte of a number.
@@ -41,7 +66,7 @@ fn digit(b: u8) -> u64
     (b - 48) as u64
 }
 
-// The number whose digits start at a place; digits beyond the nineteenth are left out.
+// The number whose digits start at a place; a digit that makes it longer than 64 bits is left out.
 fn digits(s: &[u8], from: usize) -> Token
     ensures { λ r. ⌜ from ≤ r .at ⌝ }
 {
@@ -52,7 +77,7 @@ fn digits(s: &[u8], from: usize) -> Token
         if d == 10 {
             break;
         }
-        if size < 1000000000000000000 {
+        if size <= (18446744073709551615 - d) / 10 {
             size = size * 10 + d;
         }
         i += 1;
@@ -165,40 +190,64 @@ pub fn values(s: &[u8], from: usize, out: &mut [i32]) -> usize
     at
 }
 
-// Whether the next words of the input are those of the array.
-pub fn same_words(s: &[u8], from: usize, a: &[u32]) -> Outcome
-    ensures { λ r. ⌜ from ≤ r .at ⌝ }
+// Nothing differs before a place.
+fn start_at(at: usize) -> Outcome
+    ensures { λ r. ⌜ at ≤ r .at ⌝ }
 {
-    let mut at = from;
-    let mut good = true;
-    let mut i = 0;
-    while i < a.len() {
-        let n = number(s, at);
-        at = n.at;
-        if word(n) != a[i] {
-            good = false;
-        }
-        i += 1;
+    Outcome {
+        at,
+        difference: difference::none(),
     }
-    Outcome { at, good }
 }
 
-// Whether the next values of the input are those of the array.
-pub fn same_values(s: &[u8], from: usize, a: &[i32]) -> Outcome
+// The next word of the input is expected at a place of an array that holds x there.
+fn expect_next_word(s: &[u8], o: Outcome, i: usize, x: u32) -> Outcome
+    ensures { λ r. ⌜ o .at ≤ r .at ⌝ }
+{
+    let d = o.difference;
+    let n = number(s, o.at);
+    Outcome {
+        at: n.at,
+        difference: difference::first(d, difference::expect_word(i, word(n), x)),
+    }
+}
+
+// The next words of the input are expected in the array.
+pub fn expect_words(s: &[u8], from: usize, a: &[u32]) -> Outcome
     ensures { λ r. ⌜ from ≤ r .at ⌝ }
 {
-    let mut at = from;
-    let mut good = true;
+    let mut o = start_at(from);
     let mut i = 0;
     while i < a.len() {
-        let n = number(s, at);
-        at = n.at;
-        if value(n) != a[i] {
-            good = false;
-        }
+        o = expect_next_word(s, o, i, a[i]);
         i += 1;
     }
-    Outcome { at, good }
+    o
+}
+
+// The next value of the input is expected at a place of an array that holds x there.
+fn expect_next_value(s: &[u8], o: Outcome, i: usize, x: i32) -> Outcome
+    ensures { λ r. ⌜ o .at ≤ r .at ⌝ }
+{
+    let d = o.difference;
+    let n = number(s, o.at);
+    Outcome {
+        at: n.at,
+        difference: difference::first(d, difference::expect_value(i, value(n), x)),
+    }
+}
+
+// The next values of the input are expected in the array.
+pub fn expect_values(s: &[u8], from: usize, a: &[i32]) -> Outcome
+    ensures { λ r. ⌜ from ≤ r .at ⌝ }
+{
+    let mut o = start_at(from);
+    let mut i = 0;
+    while i < a.len() {
+        o = expect_next_value(s, o, i, a[i]);
+        i += 1;
+    }
+    o
 }
 
 // A value that stands in the input so many times more, and the place behind it.
@@ -229,23 +278,151 @@ fn next_value(s: &[u8], r: Run) -> Run
     }
 }
 
-// Whether the next runs of the input, each told by its length and its value, are the values of the array.
-pub fn same_runs(s: &[u8], from: usize, a: &[i32]) -> Outcome
-    ensures { λ r. ⌜ from ≤ r .at ⌝ }
+// What differs in runs, and the run that is read.
+struct Running {
+    run: Run,
+    difference: Difference,
+}
+
+// The next value of the runs is expected at a place of an array that holds x there.
+fn expect_next_run(s: &[u8], r: Running, i: usize, x: i32) -> Running
+    ensures { λ n. ⌜ r .run .at ≤ n .run .at ⌝ }
 {
-    let mut run = Run {
-        at: from,
+    let d = r.difference;
+    let before = r.run;
+    let run = next_value(s, before);
+    Running {
+        run,
+        difference: difference::first(d, difference::expect_value(i, run.value, x)),
+    }
+}
+
+// The runs from a place on, none of which is read.
+fn first_run(at: usize) -> Running
+    ensures { λ r. ⌜ at ≤ r .run .at ⌝ }
+{
+    let run = Run {
+        at,
         left: 0,
         value: 0,
     };
-    let mut good = true;
+    Running {
+        run,
+        difference: difference::none(),
+    }
+}
+
+// The next runs of the input, each given by its length and its value, are expected in the array.
+pub fn expect_runs(s: &[u8], from: usize, a: &[i32]) -> Outcome
+    ensures { λ r. ⌜ from ≤ r .at ⌝ }
+{
+    let mut r = first_run(from);
     let mut i = 0;
     while i < a.len() {
-        run = next_value(s, run);
-        if run.value != a[i] {
-            good = false;
+        r = expect_next_run(s, r, i, a[i]);
+        i += 1;
+    }
+    let run = r.run;
+    let d = r.difference;
+    Outcome {
+        at: run.at,
+        difference: d,
+    }
+}
+
+// The refusal and the count that are expected next.
+pub fn read_expected(s: &[u8], from: usize) -> Expected
+    ensures { λ r. ⌜ from ≤ r .at ⌝ }
+{
+    let refusal = number(s, from);
+    let count = number(s, refusal.at);
+    Expected {
+        at: count.at,
+        refusal: refusal.size,
+        count: count.size,
+    }
+}
+
+// The outcome of a case in which something else may differ, too, which comes first.
+pub fn after(d: Difference, o: Outcome) -> Outcome
+    ensures { λ r. ⌜ o .at ≤ r .at ⌝ }
+{
+    let other = o.difference;
+    Outcome {
+        at: o.at,
+        difference: difference::first(d, other),
+    }
+}
+
+// The answer and the words of an array, held against the refusal and the count, and the words that
+// are expected behind them.
+pub fn expect_written(s: &[u8], want: Expected, a: Written, out: &[u32]) -> Outcome
+    ensures { λ r. ⌜ want .at ≤ r .at ⌝ }
+{
+    let o = expect_words(s, want.at, out);
+    after(expect::written(a, want.refusal, want.count), o)
+}
+
+// ---- from case to case
+
+// The line ends from a place up to another.
+fn line_ends(s: &[u8], from: usize, end: usize) -> usize {
+    let mut count: usize = 0;
+    let mut i = from;
+    while i < end {
+        if i >= s.len() {
+            return count;
+        }
+        if s[i] == 10 {
+            count = std::num::wrapping_add_usize(count, 1);
         }
         i += 1;
     }
-    Outcome { at: run.at, good }
+    count
+}
+
+// How many cases may be run, where the first number of a case is 0 at the end of the input.
+fn still_left(first: u64, left: usize) -> usize
+    ensures { λ r. ⌜ r ≤ left ⌝ }
+{
+    if first == 0 { 0 } else { left }
+}
+
+// The case that begins behind a place, with so many that may be run, on the way from another one.
+fn reach(s: &[u8], before: Reached, from: usize, left: usize, t: Tally) -> Reached
+    ensures { λ r. ⌜ r .left ≤ left ⌝ }
+{
+    let begin = skip(s, from);
+    let n = number(s, begin);
+    let lines = line_ends(s, before.at, begin);
+    Reached {
+        at: n.at,
+        first: n.size,
+        left: still_left(n.size, left),
+        line: std::num::wrapping_add_usize(before.line, lines),
+        tally: t,
+    }
+}
+
+// The first case of an input; at most 100,000 are run.
+pub fn first_case(s: &[u8]) -> Reached {
+    let start = Reached {
+        at: 0,
+        first: 0,
+        left: 0,
+        line: 1,
+        tally: tally::none(),
+    };
+    reach(s, start, 0, 100000, tally::none())
+}
+
+// The case behind one that had an outcome, which is counted.
+pub fn next_case(s: &[u8], c: Reached, o: Outcome) -> Reached
+    requires { ⌜ 0 < c .left ⌝ }
+    ensures { λ r. ⌜ r .left < c .left ⌝ }
+{
+    let d = o.difference;
+    let before = c.tally;
+    let t = tally::lined(before, c.line, d);
+    reach(s, c, o.at, c.left - 1, t)
 }

@@ -1,24 +1,16 @@
 // Building the automaton of a set, compared with the plain one.
-ghost use Prim.Native.Nat.{_≤_};
+ghost use Rattle.lists.specs.Prelude.{_≤_};
 use answers::Built;
 use test_inputs::arrays;
+use test_inputs::difference;
+use test_inputs::difference::Difference;
+use test_inputs::difference::Part;
+use test_inputs::expect;
 
-// What the arrays hold before they are written.
-pub(crate) const BEFORE: u32 = 4000000007;
-
-fn is_built(a: Built, nodes: usize, words: usize) -> bool {
-    match a {
-        Built::Nodes(n, w) => n == nodes && w == words,
-        Built::Refused(_) => false,
-    }
-}
-
-// The number of the refusal; 0 where there is none.
-fn refusal(a: Built) -> u32 {
-    match a {
-        Built::Nodes(_, _) => 0,
-        Built::Refused(r) => answers::refusal_number(r),
-    }
+// The nodes of the plain automaton of a set, and what differs from it in the one that is built.
+pub(crate) struct Compared {
+    pub(crate) nodes: usize,
+    pub(crate) difference: Difference,
 }
 
 // The words that an array to build in must have.
@@ -39,59 +31,73 @@ fn build(set: &[u32], room: usize, out: &mut [u32]) -> Built {
     finder::build_automaton(set, &mut out[..n])
 }
 
-// Whether building in so many words of an array is refused by the number, and writes nothing.
-fn refuses_in(set: &[u32], number: u32, room: usize, out: &mut [u32]) -> bool {
-    arrays::hold(out, BEFORE);
+// Building in so many words of an array is expected to be refused by the number, and to write
+// nothing.
+fn expect_refused_in(set: &[u32], number: u64, room: usize, out: &mut [u32]) -> Difference {
+    arrays::hold(out, arrays::BEFORE);
     let a = build(set, room, out);
-    let same = arrays::held_until(out, 0, BEFORE);
-    refusal(a) == number && same == out.len()
+    let kept = difference::expect_held(out, 0, arrays::BEFORE);
+    difference::first(expect::built(a, number, 0, 0), kept)
 }
 
-fn refuses(set: &[u32], number: u32, room: usize) -> bool {
+fn expect_refused(set: &[u32], number: u64, room: usize) -> Difference {
     let mut out = [0u32; 65600];
-    refuses_in(set, number, room, &mut out)
+    expect_refused_in(set, number, room, &mut out)
 }
 
-// Whether an array one word too short is refused.
-fn refuses_short(set: &[u32]) -> bool {
+// An array one word too short is expected to be refused.
+fn expect_short_refused(set: &[u32]) -> Difference {
     let n = room_of(set);
     if n == 0 {
-        return false;
+        return difference::expect_truth(Part::Room, true, false);
     }
-    refuses(set, 10, n - 1)
+    expect_refused(set, 10, n - 1)
 }
 
-fn builds_in(set: &[u32], want: &mut [u32], out: &mut [u32], nodes: &mut [u32]) -> usize {
-    arrays::hold(want, BEFORE);
-    arrays::hold(out, BEFORE);
+// What is built, held against the plain automaton of n nodes.
+fn compare_with(set: &[u32], n: usize, want: &[u32], a: Built, out: &[u32]) -> Compared
+    requires { ⌜ n ≤ 16448 ⌝ }
+{
+    let words = words_of(test_plain::pattern_count(set), n);
+    let same = difference::expect_words(want, out);
+    Compared {
+        nodes: n,
+        difference: difference::first(expect::built(a, 0, n, words), same),
+    }
+}
+
+fn compare_in(set: &[u32], want: &mut [u32], out: &mut [u32], nodes: &mut [u32]) -> Compared {
+    arrays::hold(want, arrays::BEFORE);
+    arrays::hold(out, arrays::BEFORE);
     let n = test_automaton::write(set, want, nodes);
     let a = build(set, room_of(set), out);
-    let same = arrays::alike(out, want);
-    if same < out.len() {
-        return 0;
-    }
-    if !is_built(a, n, words_of(test_plain::pattern_count(set), n)) {
-        return 0;
-    }
-    n
+    compare_with(set, n, want, a, out)
 }
 
-// The number of nodes, if the automaton is built as the plain one, and an array one word too short is refused; else 0.
-pub(crate) fn node_count(set: &[u32]) -> usize {
+// The automaton is built and compared with the plain one.
+fn compare_built(set: &[u32]) -> Compared {
     let mut want = [0u32; 65600];
     let mut out = [0u32; 65600];
     let mut nodes = [0u32; 8200];
-    if !refuses_short(set) {
-        return 0;
+    compare_in(set, &mut want, &mut out, &mut nodes)
+}
+
+// The same, and an array one word too short is expected to be refused.
+pub(crate) fn compare(set: &[u32]) -> Compared {
+    let short = expect_short_refused(set);
+    let c = compare_built(set);
+    let d = c.difference;
+    Compared {
+        nodes: c.nodes,
+        difference: difference::first(short, d),
     }
-    builds_in(set, &mut want, &mut out, &mut nodes)
 }
 
 // The empty set is refused under 1, and what is no set under 5, before the array is looked at.
-pub(crate) fn refusals() -> bool {
-    let a = refuses(&[0, 0, 0], 1, 0);
-    let b = refuses(&[0, 0, 0, 4], 1, 100);
-    let c = refuses(&[0, 0, 7], 5, 0);
-    let d = refuses(&[1, 2, 0, 2, 0, 2], 5, 100);
-    a && b && c && d
+pub(crate) fn refusals() -> Difference {
+    let a = expect_refused(&[0, 0, 0], 1, 0);
+    let b = expect_refused(&[0, 0, 0, 4], 1, 100);
+    let c = expect_refused(&[0, 0, 7], 5, 0);
+    let d = expect_refused(&[1, 2, 0, 2, 0, 2], 5, 100);
+    difference::first(difference::first(a, b), difference::first(c, d))
 }

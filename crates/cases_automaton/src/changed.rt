@@ -4,8 +4,12 @@ use answers::SearchState;
 use answers::StreamAnswer;
 use answers::Streamed;
 use test_inputs::arrays;
+use test_inputs::difference;
+use test_inputs::difference::Difference;
+use test_inputs::difference::Part;
 
-// The number of the refusal of a call with no values; 0 where it ended with nothing counted, 100 where it answers something else.
+// The number of the refusal of a call with no values; 0 where it ended with nothing counted, 100
+// where it answers something else.
 fn code(s: Streamed) -> u32 {
     let a = s.answer;
     match a {
@@ -40,7 +44,8 @@ fn one_more(x: usize) -> usize {
     x + 1
 }
 
-// Whether the call is refused under 7 when a word is one more, and when it is all ones; the word is put back.
+// Whether the call is refused under 7 when a word is one more, and when it is all ones; the word is
+// put back.
 fn is_needed(set: &[u32], automaton: &mut [u32], i: usize) -> bool {
     let before = arrays::number(automaton, i);
     arrays::put(automaton, i, one_more(before));
@@ -63,39 +68,56 @@ fn needed(set: &[u32], automaton: &mut [u32], n: usize) -> usize {
     i
 }
 
-fn all_needed_in(set: &[u32], n: usize, automaton: &mut [u32]) -> bool {
-    finder::build_automaton(set, automaton);
-    let whole = answer(set, automaton);
-    let front = answer_front(set, automaton, n);
-    let count = needed(set, automaton, n);
-    let after = answer_front(set, automaton, n);
-    whole == 0 && front == 0 && count == n && after == 0
+// The refusal that is answered, held against the number expected.
+fn expect_answer(number: u64, answered: u32) -> Difference {
+    difference::expect(Part::Refusal, number, answered as u64)
 }
 
-// Whether each of the automaton's words is needed, the last one too, and no word behind them.
-pub(crate) fn all_needed(set: &[u32], nodes: usize) -> bool {
+// The automaton is expected to be accepted, whole and cut to its n words.
+fn expect_accepted(set: &[u32], automaton: &[u32], n: usize) -> Difference {
+    let whole = expect_answer(0, answer(set, automaton));
+    difference::first(whole, expect_answer(0, answer_front(set, automaton, n)))
+}
+
+// All of its n words are expected to be needed.
+fn expect_count(before: Difference, n: usize, count: usize, after: Difference) -> Difference {
+    let all = difference::expect_size(Part::Needed, n, count);
+    difference::first(before, difference::first(all, after))
+}
+
+fn expect_needed_in(set: &[u32], n: usize, automaton: &mut [u32]) -> Difference {
+    finder::build_automaton(set, automaton);
+    let before = expect_accepted(set, automaton, n);
+    let count = needed(set, automaton, n);
+    let after = expect_accepted(set, automaton, n);
+    expect_count(before, n, count, after)
+}
+
+// Each of the automaton's words is expected to be needed, the last one too, and no word behind
+// them.
+pub(crate) fn expect_needed(set: &[u32], nodes: usize) -> Difference {
     let mut automaton = [0u32; 65600];
     let n = built::words_of(
         test_plain::pattern_count(set),
         arrays::smaller(nodes, 16448),
     );
-    all_needed_in(set, n, &mut automaton)
+    expect_needed_in(set, n, &mut automaton)
 }
 
-fn cut_in(set: &[u32], n: usize, automaton: &mut [u32]) -> bool {
+fn expect_cut_in(set: &[u32], n: usize, automaton: &mut [u32]) -> Difference {
     finder::build_automaton(set, automaton);
     if n == 0 {
-        return false;
+        return difference::expect_truth(Part::AutomatonWords, true, false);
     }
-    answer_front(set, automaton, n - 1) == 7
+    expect_answer(7, answer_front(set, automaton, n - 1))
 }
 
-// Whether the automaton with its last word cut off is refused under 7.
-pub(crate) fn cut_refused(set: &[u32], nodes: usize) -> bool {
+// The automaton with its last word cut off is expected to be refused under 7.
+pub(crate) fn expect_cut_refused(set: &[u32], nodes: usize) -> Difference {
     let mut automaton = [0u32; 65600];
     let n = built::words_of(
         test_plain::pattern_count(set),
         arrays::smaller(nodes, 16448),
     );
-    cut_in(set, n, &mut automaton)
+    expect_cut_in(set, n, &mut automaton)
 }

@@ -1,37 +1,45 @@
 // The sets.
-ghost use Prim.Native.Nat.{_≤_, _<_};
+ghost use Rattle.lists.specs.Prelude.{_<_};
 use crate::built;
 use crate::changed;
-use answers::SetSize;
+use test_inputs::difference;
+use test_inputs::difference::Difference;
+use test_inputs::difference::Part;
+use test_inputs::expect;
 use test_inputs::texts;
 
-// Whether the automaton has so many nodes, is the plain one, and needs its last word.
-fn is_good(set: &[u32], nodes: usize) -> bool {
-    let n = built::node_count(set);
-    let cut = changed::cut_refused(set, n);
-    n == nodes && n > 0 && cut
+// The automaton is expected to have so many nodes, to be the plain one, and to need its last word.
+fn expect_nodes(set: &[u32], nodes: usize) -> Difference {
+    let c = built::compare(set);
+    let d = c.difference;
+    let cut = changed::expect_cut_refused(set, c.nodes);
+    difference::first(
+        difference::expect_size(Part::Nodes, nodes, c.nodes),
+        difference::first(d, cut),
+    )
 }
 
-fn has_size(set: &[u32], patterns: usize, distances: usize) -> bool {
-    let a = finder::check_set(set);
-    match a {
-        SetSize::Holds(k, d) => k == patterns && d == distances,
-        SetSize::Refused(_) => false,
-    }
+// The same, and every word is expected to be needed.
+fn expect_all(set: &[u32], nodes: usize) -> Difference {
+    let d = expect_nodes(set, nodes);
+    difference::first(d, changed::expect_needed(set, nodes))
 }
 
-fn worked_in(set: &mut [u32]) -> bool {
+fn expect_worked(set: &[u32]) -> Difference {
+    let size = expect::set_size(finder::check_set(set), 0, 3, 14);
+    difference::first(size, expect_all(set, 11))
+}
+
+fn worked_in(set: &mut [u32]) -> Difference {
     finder::empty_set(set);
     finder::add_pattern(set, &[4, 2, 3, 1, 5]);
     finder::add_pattern(set, &[3, 1, 4, 2]);
     finder::add_pattern(set, &[1, 2, 3, 5, 4]);
-    let good = is_good(set, 11);
-    let needed = changed::all_needed(set, 11);
-    good && needed && has_size(set, 3, 14)
+    expect_worked(set)
 }
 
 // The set of docs/AUTOMATON.md: 20 words, 11 nodes.
-pub(crate) fn worked_case() -> bool {
+pub(crate) fn worked_case() -> Difference {
     let mut set = [0u32; 20];
     worked_in(&mut set)
 }
@@ -46,20 +54,17 @@ fn add_equal(set: &mut [u32], values: &[i32], m: usize) {
     }
 }
 
-fn equal_in(set: &mut [u32], values: &mut [i32], m: usize) -> bool {
+fn equal_in(set: &mut [u32], values: &mut [i32], m: usize) -> Difference {
     texts::fill(values, m, 2, m);
     add_equal(set, values, m);
     if m < 10 {
-        if !changed::all_needed(set, m + 1) {
-            return false;
-        }
-        return is_good(set, m + 1);
+        return expect_all(set, m + 1);
     }
-    is_good(set, 65)
+    expect_nodes(set, 65)
 }
 
 // 64 equal patterns of m values: a node for each value and the root.
-pub(crate) fn equal_case(m: usize) -> bool {
+pub(crate) fn equal_case(m: usize) -> Difference {
     let mut set = [0u32; 4163];
     let mut values = [0i32; 64];
     equal_in(&mut set, &mut values, m)
@@ -98,19 +103,30 @@ fn add_combs(set: &mut [u32]) {
     }
 }
 
-fn comb_in(set: &mut [u32]) -> bool {
+fn comb_in(set: &mut [u32]) -> Difference {
     add_combs(set);
-    let needed = changed::all_needed(set, 128);
-    is_good(set, 128) && needed
+    expect_all(set, 128)
 }
 
 // 64 patterns that rise for 63 values and differ in the last: a node has 64 children.
-pub(crate) fn comb_case() -> bool {
+pub(crate) fn comb_case() -> Difference {
     let mut set = [0u32; 4163];
     comb_in(&mut set)
 }
 
-fn full_in(k: usize, n: usize, kind: usize, set: &mut [u32]) -> bool {
+// A set's automaton is expected to be the plain one, and to have more than n nodes.
+fn expect_more_nodes(c: built::Compared, n: usize) -> Difference {
+    let d = c.difference;
+    if c.nodes > n {
+        return d;
+    }
+    difference::first(
+        d,
+        difference::expect_size(Part::AtLeast, std::num::wrapping_add_usize(n, 1), c.nodes),
+    )
+}
+
+fn full_in(k: usize, n: usize, kind: usize, set: &mut [u32]) -> Difference {
     finder::empty_set(set);
     let mut s = texts::next(kind);
     let mut j: usize = 0;
@@ -118,16 +134,27 @@ fn full_in(k: usize, n: usize, kind: usize, set: &mut [u32]) -> bool {
         s = test_sets::add_made(set, &[], kind, n, s);
         j += 1;
     }
-    built::node_count(set) > n
+    expect_more_nodes(built::compare(set), n)
 }
 
 // k patterns of n values.
-pub(crate) fn full_case(k: usize, n: usize, kind: usize) -> bool {
+pub(crate) fn full_case(k: usize, n: usize, kind: usize) -> Difference {
     let mut set = [0u32; 4163];
     full_in(k, n, kind, &mut set)
 }
 
-fn random_in(number: usize, set: &mut [u32]) -> bool {
+// The automaton is expected to be the plain one, to have more than one node, and to need its last
+// word, or else every word.
+fn expect_changes(set: &[u32], all: bool) -> Difference {
+    let c = built::compare(set);
+    let d = expect_more_nodes(c, 1);
+    if all {
+        return difference::first(d, changed::expect_needed(set, c.nodes));
+    }
+    difference::first(d, changed::expect_cut_refused(set, c.nodes))
+}
+
+fn random_in(number: usize, set: &mut [u32]) -> Difference {
     let kind = texts::pick(number, 5);
     let s = texts::next(number);
     let k = texts::pick(s, 5) + 1;
@@ -139,15 +166,11 @@ fn random_in(number: usize, set: &mut [u32]) -> bool {
         11,
         s,
     );
-    let n = built::node_count(set);
-    if number < 60 {
-        return n > 1 && changed::all_needed(set, n);
-    }
-    n > 1 && changed::cut_refused(set, n)
+    expect_changes(set, number < 60)
 }
 
 // Up to 6 patterns of up to 12 values.
-pub(crate) fn random_case(number: usize) -> bool {
+pub(crate) fn random_case(number: usize) -> Difference {
     let mut set = [0u32; 320];
     random_in(number, &mut set)
 }

@@ -1,26 +1,27 @@
 // Cases made from seeds.
 use crate::run;
 use test_inputs::arrays;
+use test_inputs::difference::Difference;
 use test_inputs::texts;
 
-// Whether the search over the first n values of a text agrees with the plain search.
-pub(crate) fn agrees_over(set: &[u32], text: &[i32], n: usize) -> bool {
+// The search over the first n values of a text is expected to agree with the plain search.
+pub(crate) fn expect_plain_over(set: &[u32], text: &[i32], n: usize) -> Difference {
     let m = arrays::smaller(n, text.len());
-    run::agrees(set, &text[..m])
+    run::expect_plain(set, &text[..m])
 }
 
 // A text of up to 80 values and 1 to 6 patterns of up to most + 1 values, in arrays that are lent.
-fn random_in(number: usize, most: usize, set: &mut [u32], text: &mut [i32]) -> bool {
+fn random_in(number: usize, most: usize, set: &mut [u32], text: &mut [i32]) -> Difference {
     let s = texts::next(texts::next(number));
     let n = texts::pick(s, 80);
     let kind = texts::pick(number, 6);
     let t = texts::fill(text, n, kind, s);
     let k = texts::pick(t, 5) + 1;
     test_sets::make(set, text, kind, k, most, t);
-    agrees_over(set, text, n)
+    expect_plain_over(set, text, n)
 }
 
-pub(crate) fn random_case(number: usize, most: usize) -> bool {
+pub(crate) fn random_case(number: usize, most: usize) -> Difference {
     let mut set = [0u32; 320];
     let mut text = [0i32; 80];
     random_in(number, most, &mut set, &mut text)
@@ -36,29 +37,29 @@ fn add_four(set: &mut [u32], text: &[i32], kind: usize, m: usize, seed: usize) {
 }
 
 // A text of 80 values and four patterns, the shortest of m values, in arrays that are lent.
-fn length_in(number: usize, m: usize, set: &mut [u32], text: &mut [i32]) -> bool {
+fn length_in(number: usize, m: usize, set: &mut [u32], text: &mut [i32]) -> Difference {
     let kind = texts::pick(number, 6);
     let s = texts::fill(text, 80, kind, number);
     finder::empty_set(set);
     add_four(set, text, kind, m, s);
-    agrees_over(set, text, 80)
+    expect_plain_over(set, text, 80)
 }
 
-pub(crate) fn length_case(number: usize, m: usize) -> bool {
+pub(crate) fn length_case(number: usize, m: usize) -> Difference {
     let mut set = [0u32; 320];
     let mut text = [0i32; 80];
     length_in(number, m, &mut set, &mut text)
 }
 
 // A text of 150 values and 64 patterns of up to 64 values, in arrays that are lent.
-fn large_in(number: usize, set: &mut [u32], text: &mut [i32]) -> bool {
+fn large_in(number: usize, set: &mut [u32], text: &mut [i32]) -> Difference {
     let kind = texts::pick(number, 3) + 2;
     let s = texts::fill(text, 150, kind, number);
     test_sets::make(set, text, kind, 64, 63, s);
-    agrees_over(set, text, 150)
+    expect_plain_over(set, text, 150)
 }
 
-pub(crate) fn large_case(number: usize) -> bool {
+pub(crate) fn large_case(number: usize) -> Difference {
     let mut set = [0u32; 4163];
     let mut text = [0i32; 150];
     large_in(number, &mut set, &mut text)

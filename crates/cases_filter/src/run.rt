@@ -1,24 +1,10 @@
 // One case: the search in arrays of three lengths.
 use answers::Filtered;
 use test_inputs::arrays;
-
-// What the arrays hold before a search.
-const BEFORE: u32 = 4000000007;
-
-fn is_found(a: Filtered, hits: usize, candidates: usize) -> bool {
-    match a {
-        Filtered::Found(h, c) => h == hits && c == candidates,
-        Filtered::Refused(_) => false,
-    }
-}
-
-// The number of the refusal; 0 where there is none.
-fn refusal(a: Filtered) -> u32 {
-    match a {
-        Filtered::Found(_, _) => 0,
-        Filtered::Refused(r) => answers::refusal_number(r),
-    }
-}
+use test_inputs::difference;
+use test_inputs::difference::Difference;
+use test_inputs::difference::Part;
+use test_inputs::expect;
 
 // The search in the first words of an array.
 fn search(set: &[u32], text: &[i32], room: usize, out: &mut [u32]) -> Filtered {
@@ -26,55 +12,75 @@ fn search(set: &[u32], text: &[i32], room: usize, out: &mut [u32]) -> Filtered {
     finder::filter_search(set, text, &mut out[..n])
 }
 
-// Whether the search in an array of so many words finds what is wanted, and writes nothing else.
-fn finds(
+// The search in an array of so many words is expected to find these hits, and to write nothing
+// else.
+fn expect_found(
     set: &[u32],
     text: &[i32],
     want: &[u32],
     words: usize,
     room: usize,
     out: &mut [u32],
-) -> bool {
-    arrays::hold(out, BEFORE);
+) -> Difference {
+    arrays::hold(out, arrays::BEFORE);
     let candidates = test_plain::candidates(set, text);
     let a = search(set, text, room, out);
-    let same = arrays::alike(out, want);
-    is_found(a, words / 2, candidates) && same == out.len()
+    let same = difference::expect_words(want, out);
+    difference::first(expect::filtered(a, 0, words / 2, candidates), same)
 }
 
-// Whether the search is refused by the number, and writes nothing.
-fn refuses_in(set: &[u32], text: &[i32], number: u32, room: usize, out: &mut [u32]) -> bool {
-    arrays::hold(out, BEFORE);
+// The search is expected to be refused by the number, and to write nothing.
+fn expect_refused_in(
+    set: &[u32],
+    text: &[i32],
+    number: u64,
+    room: usize,
+    out: &mut [u32],
+) -> Difference {
+    arrays::hold(out, arrays::BEFORE);
     let a = search(set, text, room, out);
-    let same = arrays::held_until(out, 0, BEFORE);
-    refusal(a) == number && same == out.len()
+    let kept = difference::expect_held(out, 0, arrays::BEFORE);
+    difference::first(expect::filtered(a, number, 0, 0), kept)
 }
 
-pub(crate) fn refuses(set: &[u32], text: &[i32], number: u32, room: usize) -> bool {
+pub(crate) fn expect_refused(set: &[u32], text: &[i32], number: u64, room: usize) -> Difference {
     let mut out = [0u32; 2048];
-    refuses_in(set, text, number, room, &mut out)
+    expect_refused_in(set, text, number, room, &mut out)
 }
 
-// Whether an array one word too short is refused; a list of no hits fits every array.
-fn refuses_short(set: &[u32], text: &[i32], words: usize) -> bool {
+// An array one word too short is expected to be refused; a list of no hits fits every array.
+fn expect_short_refused(set: &[u32], text: &[i32], words: usize) -> Difference {
     if words == 0 {
-        return true;
+        return difference::none();
     }
-    refuses(set, text, 11, words - 1)
+    expect_refused(set, text, 11, words - 1)
 }
 
-// Whether the search agrees with the plain search, whose list is shorter than the arrays that are lent.
-fn agrees_in(set: &[u32], text: &[i32], want: &mut [u32], out: &mut [u32]) -> bool {
-    arrays::hold(want, BEFORE);
+// The search in arrays of these words, of more and of one word less.
+fn expect_lists(
+    set: &[u32],
+    text: &[i32],
+    want: &[u32],
+    words: usize,
+    out: &mut [u32],
+) -> Difference {
+    let exact = expect_found(set, text, want, words, words, out);
+    let long = expect_found(set, text, want, words, out.len(), out);
+    let short = expect_short_refused(set, text, words);
+    difference::first(exact, difference::first(long, short))
+}
+
+// The search is expected to agree with the plain search, whose list is shorter than the arrays that
+// are lent.
+fn expect_plain_in(set: &[u32], text: &[i32], want: &mut [u32], out: &mut [u32]) -> Difference {
+    arrays::hold(want, arrays::BEFORE);
     let words = test_plain::hits_between(set, text, 0, text.len(), want);
-    let exact = finds(set, text, want, words, words, out);
-    let long = finds(set, text, want, words, out.len(), out);
-    let short = refuses_short(set, text, words);
-    exact && long && short && words < want.len()
+    let fits = difference::expect_truth(Part::Room, true, words < want.len());
+    difference::first(fits, expect_lists(set, text, want, words, out))
 }
 
-pub(crate) fn agrees(set: &[u32], text: &[i32]) -> bool {
+pub(crate) fn expect_plain(set: &[u32], text: &[i32]) -> Difference {
     let mut want = [0u32; 2048];
     let mut out = [0u32; 2048];
-    agrees_in(set, text, &mut want, &mut out)
+    expect_plain_in(set, text, &mut want, &mut out)
 }

@@ -1,5 +1,4 @@
 // Inputs put together from their pieces.
-ghost use Prim.Native.Nat.{_≤_};
 
 // The place behind what is read of the input, and the number of bytes put.
 pub(crate) struct Filled {
@@ -8,14 +7,14 @@ pub(crate) struct Filled {
 }
 
 // The byte at a place; 0 behind the end.
-fn byte_at(s: &[u8], i: usize) -> u8 {
+pub(crate) fn byte_at(s: &[u8], i: usize) -> u8 {
     if i < s.len() {
         return s[i];
     }
     0
 }
 
-// Puts a byte to a place, if there is that place; tells the place behind it.
+// Puts a byte to a place, if there is that place; returns the place behind it.
 fn put(out: &mut [u8], to: usize, b: u8) -> usize {
     if to < out.len() {
         out[to] = b;
@@ -24,7 +23,7 @@ fn put(out: &mut [u8], to: usize, b: u8) -> usize {
     to
 }
 
-// Puts n bytes of the input to a place; tells the place behind them.
+// Puts n bytes of the input to a place; returns the place behind them.
 fn copy(s: &[u8], from: usize, n: usize, out: &mut [u8], to: usize) -> usize {
     let mut p = to;
     let mut i: usize = 0;

@@ -1,13 +1,16 @@
-// Runs the inputs of the program `hits` that standard input tells through the library code of that program, and counts those that give something else than
-// the input says: what is read, the number of the refusal, and the text of the hits over several calls. The input is made by tests/inputs.py, which computes
-// what is expected in its own way.
+// Runs the inputs of the program `hits` that standard input has through the library code of that
+// program, prints the first of them that give something else than the input says, and counts them:
+// what is read, the number of the refusal, and the text of the hits over several calls. The input
+// is made by tests/hits_inputs.py, which computes what is expected in its own way.
 //
 // All numbers are decimal. A case is
-//   the number of pieces, and each piece: how often it stands, how many bytes it has, a space, the bytes; or 1, 0 and the number of one byte
+//   the number of pieces, and each piece: how often it stands, how many bytes it has, a space, the
+//       bytes; or 1, 0 and the number of one byte
 //   the words of the hit array
-//   0 for a bad input; else 1, the number of patterns, where each ends, their values, the number of the text's values, those, and the number of the refusal
+//   0 for a bad input; else 1, the number of patterns, where each ends, their values, the number of
+//       the text's values, those, and the number of the refusal
 //   behind a refusal of 0 the number of bytes of what is printed, a newline, these bytes
-// Values are told in runs: length of the run, value.
+// Values are given in runs: length of the run, value.
 mod inputs;
 mod reading;
 mod searching;
@@ -28,25 +31,15 @@ fn case_in(s: &[u8], pieces: u64, at: usize) -> Outcome {
     case(s, pieces, at, &mut bytes)
 }
 
-// Runs the cases from the start of the input, and prints how many there are and how many of them failed.
+// Runs the cases from the start of the input, and prints how many there are and how many of them
+// failed.
 fn run(s: &[u8]) {
-    let mut at: usize = 0;
-    let mut t = tally::none();
-    let mut turns: u32 = 0;
-    while turns < 100000 {
-        let pieces = case_input::number(s, at);
-        if pieces.size == 0 {
-            break;
-        }
-        let outcome = case_in(s, pieces.size, pieces.at);
-        at = outcome.at;
-        t = tally::count(t, outcome.good);
-        turns += 1;
+    let mut c = case_input::first_case(s);
+    while c.left > 0 {
+        c = case_input::next_case(s, c, case_in(s, c.first, c.at));
     }
-    io::print_decimal(1, t.cases);
-    io::write_all(1, b" inputs, ");
-    io::print_decimal(1, t.failed);
-    io::write_all(1, b" failed\n");
+    let t = c.tally;
+    tally::report_as(b"", t, b" inputs, ");
 }
 
 // Runs the cases of standard input.

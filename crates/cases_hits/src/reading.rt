@@ -1,21 +1,28 @@
 // What is read of an input, compared with what is expected.
 use crate::searching;
 use case_input::Outcome;
-use hits_calls::preparing;
 use hits_input::Parsed;
+use test_inputs::arrays;
+use test_inputs::difference;
+use test_inputs::difference::Difference;
+use test_inputs::difference::Part;
 
-// Whether so many patterns and values are told.
-fn is_told(p: Parsed, patterns: u64, values: u64) -> bool {
+// So many patterns and values are expected.
+fn expect_parsed(p: Parsed, patterns: u64, values: u64) -> Difference {
     match p {
-        Parsed::Good(k, n) => k as u64 == patterns && n as u64 == values,
-        Parsed::Bad => false,
+        Parsed::Good(k, n) => difference::first(
+            difference::expect(Part::Patterns, patterns, k as u64),
+            difference::expect(Part::TextValues, values, n as u64),
+        ),
+        Parsed::Bad => difference::expect_truth(Part::BadInput, false, true),
     }
 }
 
-fn is_bad(p: Parsed) -> bool {
+// A bad input is expected.
+fn expect_bad(p: Parsed) -> Difference {
     match p {
-        Parsed::Good(_, _) => false,
-        Parsed::Bad => true,
+        Parsed::Good(_, _) => difference::expect_truth(Part::BadInput, true, false),
+        Parsed::Bad => difference::none(),
     }
 }
 
@@ -25,7 +32,7 @@ fn last(places: &[u32]) -> usize {
     if n == 0 {
         return 0;
     }
-    preparing::wide(places[n - 1])
+    arrays::wide(places[n - 1])
 }
 
 // The text's values are compared, and the search over them.
@@ -37,12 +44,12 @@ fn text_case(
     places: &[u32],
     text: &[i32],
 ) -> Outcome {
-    let o = case_input::same_runs(s, at, text);
-    let p = searching::search_case(s, o.at, room, values, places, text);
-    Outcome {
-        at: p.at,
-        good: o.good && p.good,
-    }
+    let o = case_input::expect_runs(s, at, text);
+    let d = o.difference;
+    case_input::after(
+        d,
+        searching::search_case(s, o.at, room, values, places, text),
+    )
 }
 
 // The patterns' values are compared, and then the text's, of which so many are expected.
@@ -55,15 +62,15 @@ fn values_case(
     places: &[u32],
     text: &[i32],
 ) -> Outcome {
-    let o = case_input::same_runs(s, at, values);
+    let o = case_input::expect_runs(s, at, values);
     let n = case_input::number(s, o.at);
-    let told = is_told(p, places.len() as u64, n.size);
     let size = case_input::small(n.size, text.len());
-    let q = text_case(s, n.at, room, values, places, &text[..size]);
-    Outcome {
-        at: q.at,
-        good: told && o.good && q.good,
-    }
+    let d = o.difference;
+    let parsed = expect_parsed(p, places.len() as u64, n.size);
+    case_input::after(
+        difference::first(parsed, d),
+        text_case(s, n.at, room, values, places, &text[..size]),
+    )
 }
 
 // The places where patterns end are compared, and then their values.
@@ -76,13 +83,13 @@ fn places_case(
     places: &[u32],
     text: &[i32],
 ) -> Outcome {
-    let o = case_input::same_words(s, at, places);
+    let o = case_input::expect_words(s, at, places);
     let total = case_input::small(last(places) as u64, values.len());
-    let q = values_case(s, o.at, room, p, &values[..total], places, text);
-    Outcome {
-        at: q.at,
-        good: o.good && q.good,
-    }
+    let d = o.difference;
+    case_input::after(
+        d,
+        values_case(s, o.at, room, p, &values[..total], places, text),
+    )
 }
 
 // What was read is compared with what is expected from a place on.
@@ -99,7 +106,7 @@ fn read_case(
     if good.size == 0 {
         return Outcome {
             at: good.at,
-            good: is_bad(p),
+            difference: expect_bad(p),
         };
     }
     let k = case_input::number(s, good.at);

@@ -1,78 +1,152 @@
-// The set, the automaton and the calls of a search over what was read, compared with what is expected.
+// The set, the automaton and the calls of a search over what was read, compared with what is
+// expected.
+use crate::inputs;
 use answers::SearchState;
 use case_input::Outcome;
 use hits_calls::calls;
+use hits_calls::calls::Step;
 use hits_calls::preparing;
+use test_inputs::arrays;
+use test_inputs::difference;
+use test_inputs::difference::Difference;
+use test_inputs::difference::Part;
 
-// A place behind every text: what was printed is not what is expected.
-const NOWHERE: usize = 1000000000;
-
-// Whether a text has a byte at a place.
-fn has(want: &[u8], at: usize, b: u8) -> bool {
-    if at < want.len() {
-        return want[at] == b;
-    }
-    false
+// How many bytes were printed, and what differs in them.
+struct Printed {
+    at: usize,
+    difference: Difference,
 }
 
-// The place behind some bytes that a text must have at a place.
-fn pass(want: &[u8], at: usize, out: &[u8]) -> usize {
-    let mut p = at;
+// The state behind some calls, their attempts, whether values are left, and what they printed.
+struct Run {
+    state: SearchState,
+    attempts: u64,
+    more: bool,
+    printed: Printed,
+}
+
+// One more byte is printed; behind the end of the text that is expected nothing is, which is 0
+// here.
+fn pass_byte(want: &[u8], p: Printed, b: u8) -> Printed {
+    let d = p.difference;
+    let next = inputs::byte_at(want, p.at);
+    Printed {
+        at: std::num::wrapping_add_usize(p.at, 1),
+        difference: difference::first(
+            d,
+            difference::expect_at(Part::Byte, p.at, next as u64, b as u64),
+        ),
+    }
+}
+
+// Some more bytes are printed.
+fn pass(want: &[u8], before: Printed, out: &[u8]) -> Printed {
+    let mut p = before;
     let mut i: usize = 0;
     while i < out.len() {
-        if !has(want, p, out[i]) {
-            return NOWHERE;
-        }
-        p = std::num::wrapping_add_usize(p, 1);
+        p = pass_byte(want, p, out[i]);
         i += 1;
     }
     p
 }
 
-// Whether a text ends with the line of the attempts at a place.
-fn ends_with(want: &[u8], at: usize, attempts: u64) -> bool {
-    let mut out = [0u8; 20];
-    let n = hits_output::write_number(attempts, &mut out);
-    let p = pass(want, at, b"trials ");
-    let q = pass(want, p, &out[..n]);
-    pass(want, q, b"\n") == want.len()
+// Nothing but the header is printed.
+fn start(want: &[u8]) -> Run {
+    let nothing = Printed {
+        at: 0,
+        difference: difference::none(),
+    };
+    Run {
+        state: SearchState::new(),
+        attempts: 0,
+        more: true,
+        printed: pass(want, nothing, b"end shape length\n"),
+    }
 }
 
-// Whether the header, the hits of calls until the values end, and the attempts of all calls are the text.
-fn prints(
+// The run behind one more call, which printed so far.
+fn behind(s: Step, printed: Printed, attempts: u64) -> Run {
+    let state = s.state;
+    let d = printed.difference;
+    let accepted = difference::expect(Part::Refusal, 0, s.refused as u64);
+    Run {
+        state,
+        attempts: std::num::wrapping_add_u64(attempts, s.attempts),
+        more: s.more && s.refused == 0,
+        printed: Printed {
+            at: printed.at,
+            difference: difference::first(d, accepted),
+        },
+    }
+}
+
+// One more call, and the hits that it prints.
+fn next_call(
     set: &[u32],
     automaton: &[u32],
     text: &[i32],
     hits: &mut [u32],
     out: &mut [u8],
     want: &[u8],
-) -> bool {
-    let mut at = pass(want, 0, b"end shape length\n");
-    let mut state = SearchState::new();
-    let mut attempts: u64 = 0;
-    let mut turns: u32 = 0;
-    while turns < 40000 {
-        let from = preparing::smaller(preparing::wide(state.taken), text.len());
-        let s = calls::make_call(set, automaton, state, &text[from..], hits, out);
-        at = pass(want, at, &out[..s.bytes]);
-        attempts = std::num::wrapping_add_u64(attempts, s.attempts);
-        let good = s.refused == 0;
-        let go = good && s.more;
-        if !go {
-            return good && ends_with(want, at, attempts);
-        }
-        state = s.state;
-        turns += 1;
-    }
-    false
+    r: Run,
+) -> Run {
+    let state = r.state;
+    let before = r.printed;
+    let from = arrays::smaller(arrays::wide(state.taken), text.len());
+    let s = calls::make_call(set, automaton, state, &text[from..], hits, out);
+    let printed = pass(want, before, &out[..s.bytes]);
+    behind(s, printed, r.attempts)
 }
 
-// Whether the calls with a hit array of so many words print the text.
-fn prints_in(set: &[u32], automaton: &[u32], text: &[i32], room: usize, want: &[u8]) -> bool {
+// The calls until the values end.
+fn all_calls(
+    set: &[u32],
+    automaton: &[u32],
+    text: &[i32],
+    hits: &mut [u32],
+    out: &mut [u8],
+    want: &[u8],
+) -> Run {
+    let mut r = start(want);
+    let mut turns: u32 = 0;
+    while turns < 40000 {
+        if !r.more {
+            return r;
+        }
+        r = next_call(set, automaton, text, hits, out, want, r);
+        turns += 1;
+    }
+    r
+}
+
+// The text is expected to end with the line of the attempts.
+fn expect_end(want: &[u8], r: Run) -> Difference {
+    let mut out = [0u8; 20];
+    let n = hits_output::write_number(r.attempts, &mut out);
+    let before = r.printed;
+    let p = pass(want, before, b"trials ");
+    let q = pass(want, p, &out[..n]);
+    let end = pass(want, q, b"\n");
+    let d = end.difference;
+    difference::first(
+        d,
+        difference::expect_size(Part::Printed, want.len(), end.at),
+    )
+}
+
+// The calls with a hit array of so many words are expected to print the text.
+fn expect_printed(
+    set: &[u32],
+    automaton: &[u32],
+    text: &[i32],
+    room: usize,
+    want: &[u8],
+) -> Difference {
     let mut hits = [0u32; 8192];
     let mut out = [0u8; 258048];
-    let n = preparing::smaller(room, 8192);
-    prints(set, automaton, text, &mut hits[..n], &mut out, want)
+    let n = arrays::smaller(room, 8192);
+    let r = all_calls(set, automaton, text, &mut hits[..n], &mut out, want);
+    expect_end(want, r)
 }
 
 // The text that is expected is taken from the input, and the calls are held against it.
@@ -85,15 +159,15 @@ fn text_case(
     room: usize,
 ) -> Outcome {
     let n = case_input::number(s, at);
-    let from = preparing::smaller(std::num::wrapping_add_usize(n.at, 1), s.len());
-    let end = preparing::smaller(
+    let from = arrays::smaller(std::num::wrapping_add_usize(n.at, 1), s.len());
+    let end = arrays::smaller(
         std::num::wrapping_add_usize(from, case_input::small(n.size, 1000000)),
         s.len(),
     );
-    let start = preparing::smaller(from, end);
+    let start = arrays::smaller(from, end);
     Outcome {
         at: end,
-        good: prints_in(set, automaton, text, room, &s[start..end]),
+        difference: expect_printed(set, automaton, text, room, &s[start..end]),
     }
 }
 
@@ -109,18 +183,14 @@ fn prepared_case(
 ) -> Outcome {
     let refusal = case_input::number(s, at);
     let refused = preparing::prepare(values, places, set, automaton);
-    let good = refused as u64 == refusal.size;
+    let d = difference::expect(Part::Refusal, refusal.size, refused as u64);
     if refusal.size > 0 {
         return Outcome {
             at: refusal.at,
-            good,
+            difference: d,
         };
     }
-    let o = text_case(s, refusal.at, set, automaton, text, room);
-    Outcome {
-        at: o.at,
-        good: good && o.good,
-    }
+    case_input::after(d, text_case(s, refusal.at, set, automaton, text, room))
 }
 
 // The number of the refusal is compared, or else what the calls print.

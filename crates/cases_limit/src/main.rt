@@ -1,51 +1,39 @@
-// A search that takes all 1,048,576 values that a search takes, by calls over one array, over the set of the pattern of one value; then no value more,
-// which ends, and one value more, which is refused under 9.
+// A search that takes all 1,048,576 values that a search takes, by calls over one array, over the
+// set of the pattern of one value; then no value more, which ends, and one value more, which is
+// refused under 9.
 use answers::Counts;
 use answers::SearchState;
-use answers::StreamAnswer;
+use answers::Streamed;
 use test_inputs::arrays;
+use test_inputs::difference;
+use test_inputs::difference::Difference;
+use test_inputs::difference::Part;
+use test_inputs::expect;
+use test_inputs::tally;
 
-// A state, and whether all went right up to it.
+// A state, and what differed on the way to it.
 struct Reached {
     state: SearchState,
-    good: bool,
+    difference: Difference,
 }
 
-fn wide(x: u32) -> usize {
-    x as usize
-}
-
-// Whether the hits are those at 4,096 places from one on.
-fn are_places(hits: &[u32], from: usize) -> bool {
+// The hits are expected to be those at 4,096 places from one on.
+fn expect_places(hits: &[u32], from: usize) -> Difference {
     let mut i: usize = 0;
     while i < 4096 {
-        if arrays::number(hits, 2 * i) != std::num::wrapping_add_usize(from, i) {
-            return false;
+        let place = std::num::wrapping_add_usize(from, i);
+        let d = difference::expect_at(
+            Part::Word,
+            2 * i,
+            place as u64,
+            arrays::number(hits, 2 * i) as u64,
+        );
+        if !difference::is_none(d) {
+            return d;
         }
         i += 1;
     }
-    true
-}
-
-fn same_counts(c: Counts, taken: usize, hits: usize, attempts: usize) -> bool {
-    c.taken == taken && c.hits == hits && c.attempts == attempts
-}
-
-// Whether a call ended with these counts.
-fn has_ended(a: StreamAnswer, taken: usize, hits: usize, attempts: usize) -> bool {
-    match a {
-        StreamAnswer::Ended(c) => same_counts(c, taken, hits, attempts),
-        StreamAnswer::Full(_) => false,
-        StreamAnswer::Refused(_) => false,
-    }
-}
-
-fn is_refused(a: StreamAnswer, number: u32) -> bool {
-    match a {
-        StreamAnswer::Ended(_) => false,
-        StreamAnswer::Full(_) => false,
-        StreamAnswer::Refused(r) => answers::refusal_number(r) == number,
-    }
+    difference::none()
 }
 
 // A value is looked for at its node and at the root, the first of all at the root only.
@@ -61,14 +49,19 @@ fn full_call(
     text: &[i32],
     hits: &mut [u32],
 ) -> Reached {
-    let from = wide(s.taken);
+    let from = arrays::wide(s.taken);
     let r = finder::stream_search(set, automaton, s, text, hits);
     let state = r.state;
     let answer = r.answer;
-    let ended = has_ended(answer, 4096, 4096, attempts_from(from));
+    let counts = Counts {
+        taken: 4096,
+        hits: 4096,
+        attempts: attempts_from(from),
+    };
+    let ended = expect::streamed(answer, true, counts);
     Reached {
         state,
-        good: ended && are_places(hits, from),
+        difference: difference::first(ended, expect_places(hits, from)),
     }
 }
 
@@ -77,55 +70,83 @@ fn next_call(set: &[u32], automaton: &[u32], s: SearchState, text: &[i32]) -> Re
     full_call(set, automaton, s, text, &mut hits)
 }
 
+// The call behind another one.
+fn call_after(set: &[u32], automaton: &[u32], before: Reached, text: &[i32]) -> Reached {
+    let s = before.state;
+    let earlier = before.difference;
+    let r = next_call(set, automaton, s, text);
+    let state = r.state;
+    let d = r.difference;
+    Reached {
+        state,
+        difference: difference::first(earlier, d),
+    }
+}
+
 // The state after 256 such calls.
 fn all_calls(set: &[u32], automaton: &[u32], text: &[i32]) -> Reached {
-    let mut s = SearchState::new();
-    let mut good = true;
+    let mut r = Reached {
+        state: SearchState::new(),
+        difference: difference::none(),
+    };
     let mut i: usize = 0;
     while i < 256 {
-        let r = next_call(set, automaton, s, text);
-        s = r.state;
-        good = good && r.good;
+        r = call_after(set, automaton, r, text);
         i += 1;
     }
-    Reached { state: s, good }
+    r
 }
 
-// Whether a call with no values ends.
-fn none_ends(set: &[u32], automaton: &[u32], s: SearchState, hits: &mut [u32]) -> bool {
-    let r = finder::stream_search(set, automaton, s, &[], hits);
-    let state = r.state;
-    let answer = r.answer;
-    has_ended(answer, 0, 0, 0) && state.taken == 1048576
+// All values are expected to be taken.
+fn expect_taken(s: SearchState) -> Difference {
+    difference::expect(Part::Taken, 1048576, s.taken as u64)
 }
 
-// Whether a call with one value is refused.
-fn one_refused(set: &[u32], automaton: &[u32], s: SearchState, hits: &mut [u32]) -> bool {
-    let r = finder::stream_search(set, automaton, s, &[5], hits);
-    let state = r.state;
-    let answer = r.answer;
-    is_refused(answer, 9) && state.taken == 1048576
+// A call with no values is expected to end.
+fn expect_end(s: Streamed) -> Difference {
+    let state = s.state;
+    let answer = s.answer;
+    let counts = Counts {
+        taken: 0,
+        hits: 0,
+        attempts: 0,
+    };
+    difference::first(expect::streamed(answer, true, counts), expect_taken(state))
 }
 
-fn limit_in(set: &[u32], text: &[i32], automaton: &mut [u32], hits: &mut [u32]) -> bool {
-    finder::build_automaton(set, automaton);
+// A call with one value is expected to be refused.
+fn expect_refused(s: Streamed) -> Difference {
+    let state = s.state;
+    let answer = s.answer;
+    difference::first(expect::stream_refused(answer, 9), expect_taken(state))
+}
+
+// With all values taken, a call with none and a call with one value more.
+fn expect_last(set: &[u32], automaton: &[u32], s: SearchState, hits: &mut [u32]) -> Difference {
+    let none = expect_end(finder::stream_search(set, automaton, s, &[], hits));
+    let one = expect_refused(finder::stream_search(set, automaton, s, &[5], hits));
+    difference::first(none, one)
+}
+
+fn expect_limit(set: &[u32], text: &[i32], automaton: &[u32], hits: &mut [u32]) -> Difference {
     let r = all_calls(set, automaton, text);
     let s = r.state;
-    let none = none_ends(set, automaton, s, hits);
-    let one = one_refused(set, automaton, s, hits);
-    r.good && none && one
+    let d = r.difference;
+    difference::first(d, expect_last(set, automaton, s, hits))
 }
 
-fn limit_over(text: &[i32]) -> bool {
+fn limit_in(set: &[u32], text: &[i32], automaton: &mut [u32], hits: &mut [u32]) -> Difference {
+    finder::build_automaton(set, automaton);
+    expect_limit(set, text, automaton, hits)
+}
+
+fn limit_over(text: &[i32]) -> Difference {
     let mut automaton = [0u32; 32];
     let mut hits = [0u32; 2];
     limit_in(&[1, 1, 0, 1, 0], text, &mut automaton, &mut hits)
 }
 
 fn main() {
-    if limit_over(&[-7; 4096]) {
-        io::write_all(1, b"1,048,576 values: 1 cases, 0 failed\n");
-    } else {
-        io::write_all(1, b"1,048,576 values: 1 cases, 1 failed\n");
-    }
+    let t = tally::named(tally::none(), b"1,048,576 values", limit_over(&[-7; 4096]));
+    tally::report(b"1,048,576 values: ", t);
 }

@@ -1,42 +1,28 @@
-// Cases of the entries on one pattern. A case is read and run in arrays that are cut to their lengths already.
+// Cases of the entries on one pattern. A case is read and run in arrays that are cut to their
+// lengths already.
 use answers::Encoded;
 use answers::Written;
 use case_input::Outcome;
-
-// Whether an answer is the one expected.
-fn is_told(a: Written, refusal: u64, count: u64) -> bool {
-    match a {
-        Written::Words(n) => refusal == 0 && n as u64 == count,
-        Written::Refused(r) => answers::refusal_number(r) as u64 == refusal,
-    }
-}
+use test_inputs::difference;
+use test_inputs::difference::Difference;
+use test_inputs::difference::Part;
+use test_inputs::expect;
 
 // The values are read, and their distances are compared.
 fn distances_case(s: &[u8], at: usize, list: &mut [i32], out: &mut [u32]) -> Outcome {
     let p = case_input::values(s, at, list);
-    let refusal = case_input::number(s, p);
-    let count = case_input::number(s, refusal.at);
+    let want = case_input::read_expected(s, p);
     let a = finder::distances(list, out);
-    let o = case_input::same_words(s, count.at, out);
-    let told = is_told(a, refusal.size, count.size);
-    Outcome {
-        at: o.at,
-        good: o.good && told,
-    }
+    case_input::expect_written(s, want, a, out)
 }
 
 // The distances are read, and their least values are compared.
 fn least_case(s: &[u8], at: usize, list: &mut [u32], out: &mut [i32]) -> Outcome {
     let p = case_input::words(s, at, list);
-    let refusal = case_input::number(s, p);
-    let count = case_input::number(s, refusal.at);
+    let want = case_input::read_expected(s, p);
     let a = finder::least_realization(list, out);
-    let o = case_input::same_values(s, count.at, out);
-    let told = is_told(a, refusal.size, count.size);
-    Outcome {
-        at: o.at,
-        good: o.good && told,
-    }
+    let o = case_input::expect_values(s, want.at, out);
+    case_input::after(expect::written(a, want.refusal, want.count), o)
 }
 
 // Global parents for entry 3, failure lengths for 4.
@@ -50,15 +36,9 @@ fn words_of(entry: u64, ds: &[u32], out: &mut [u32]) -> Written {
 // The distances are read, and the words made from them are compared.
 fn words_case(s: &[u8], entry: u64, at: usize, list: &mut [u32], out: &mut [u32]) -> Outcome {
     let p = case_input::words(s, at, list);
-    let refusal = case_input::number(s, p);
-    let count = case_input::number(s, refusal.at);
+    let want = case_input::read_expected(s, p);
     let a = words_of(entry, list, out);
-    let o = case_input::same_words(s, count.at, out);
-    let told = is_told(a, refusal.size, count.size);
-    Outcome {
-        at: o.at,
-        good: o.good && told,
-    }
+    case_input::expect_written(s, want, a, out)
 }
 
 // A case of an entry on a list, with room for the result.
@@ -85,17 +65,26 @@ pub(crate) fn list_case(
     words_case(s, entry, room.at, &mut list[..length], &mut out[..space])
 }
 
+// The code is held against the one expected.
+fn expect_code(a: Encoded, refusal: u64, code: u64) -> Difference {
+    match a {
+        Encoded::Code(c) => difference::first(
+            difference::expect(Part::Refusal, refusal, 0),
+            difference::expect(Part::Code, code, c),
+        ),
+        Encoded::Refused(r) => expect::refused(refusal, r),
+    }
+}
+
 // The distances are read, and their code is compared.
 fn encoded_case(s: &[u8], at: usize, list: &mut [u32]) -> Outcome {
     let p = case_input::words(s, at, list);
-    let refusal = case_input::number(s, p);
-    let code = case_input::number(s, refusal.at);
+    let want = case_input::read_expected(s, p);
     let a = finder::encode(list);
-    let good = match a {
-        Encoded::Code(c) => refusal.size == 0 && c == code.size,
-        Encoded::Refused(r) => answers::refusal_number(r) as u64 == refusal.size,
-    };
-    Outcome { at: code.at, good }
+    Outcome {
+        at: want.at,
+        difference: expect_code(a, want.refusal, want.count),
+    }
 }
 
 // A case of encode.
@@ -107,15 +96,9 @@ pub(crate) fn encode_case(s: &[u8], at: usize, list: &mut [u32]) -> Outcome {
 
 // The distances of a code are compared.
 fn decoded_case(s: &[u8], at: usize, n: usize, code: u64, out: &mut [u32]) -> Outcome {
-    let refusal = case_input::number(s, at);
-    let count = case_input::number(s, refusal.at);
+    let want = case_input::read_expected(s, at);
     let a = finder::decode(n, code, out);
-    let o = case_input::same_words(s, count.at, out);
-    let told = is_told(a, refusal.size, count.size);
-    Outcome {
-        at: o.at,
-        good: o.good && told,
-    }
+    case_input::expect_written(s, want, a, out)
 }
 
 // A case of decode.

@@ -1,14 +1,18 @@
-// Runs the entries on sets of patterns on the cases of standard input, and counts the cases that give something else than the
-// input says. The input is made by tests/entries.py, which computes what is expected in its own way.
+// Runs the entries on sets of patterns on the cases of standard input, prints the first cases that
+// give something else than the input says, and counts them. The input is made by tests/entries.py,
+// which computes what is expected in its own way.
 //
-// All numbers are decimal. A case is the number of an entry, what it is given, and what is expected:
+// All numbers are decimal. A case is the number of an entry, what it is given, and what is
+// expected:
 //   7 empty set: room; refusal, count, and every word of the array afterwards
 //   8 check of a set: words of the array, the array; refusal, patterns, distances
-//   9 adding a pattern: words of the array, the array, length, the values; refusal, patterns, distances, every word afterwards
+//   9 adding a pattern: words of the array, the array, length, the values; refusal, patterns,
+//       distances, every word afterwards
 // An array that is only written holds 7s before the call.
 mod set_cases;
 
 use case_input::Outcome;
+use test_inputs::tally;
 
 // The case of an entry that starts at a place of the input.
 fn case(s: &[u8], entry: u64, at: usize) -> Outcome {
@@ -24,29 +28,15 @@ fn case(s: &[u8], entry: u64, at: usize) -> Outcome {
     set_cases::add_case(s, at, &mut set, &mut values)
 }
 
-// Runs the cases from the start of the input, and prints how many there are and how many of them failed.
+// Runs the cases from the start of the input, and prints how many there are and how many of them
+// failed.
 fn run(s: &[u8]) {
-    let mut at: usize = 0;
-    let mut cases: u64 = 0;
-    let mut failed: u64 = 0;
-    let mut turns: u32 = 0;
-    while turns < 100000 {
-        let entry = case_input::number(s, at);
-        if entry.size == 0 {
-            break;
-        }
-        let outcome = case(s, entry.size, entry.at);
-        at = outcome.at;
-        cases = std::num::wrapping_add_u64(cases, 1);
-        if !outcome.good {
-            failed = std::num::wrapping_add_u64(failed, 1);
-        }
-        turns += 1;
+    let mut c = case_input::first_case(s);
+    while c.left > 0 {
+        c = case_input::next_case(s, c, case(s, c.first, c.at));
     }
-    io::print_decimal(1, cases);
-    io::write_all(1, b" cases, ");
-    io::print_decimal(1, failed);
-    io::write_all(1, b" failed\n");
+    let t = c.tally;
+    tally::report(b"", t);
 }
 
 // Runs the cases of standard input.

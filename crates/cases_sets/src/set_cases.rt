@@ -1,35 +1,14 @@
-// Cases of the entries on sets of patterns. A case is read and run in arrays that are cut to their lengths already.
+// Cases of the entries on sets of patterns. A case is read and run in arrays that are cut to their
+// lengths already.
 use answers::SetSize;
-use answers::Written;
 use case_input::Outcome;
-
-// Whether the answer for an empty set is the one expected.
-fn is_told(a: Written, refusal: u64, count: u64) -> bool {
-    match a {
-        Written::Words(n) => refusal == 0 && n as u64 == count,
-        Written::Refused(r) => answers::refusal_number(r) as u64 == refusal,
-    }
-}
-
-// Whether the answer for a set is the one expected.
-fn is_sized(a: SetSize, refusal: u64, patterns: u64, distances: u64) -> bool {
-    match a {
-        SetSize::Holds(k, n) => refusal == 0 && k as u64 == patterns && n as u64 == distances,
-        SetSize::Refused(r) => answers::refusal_number(r) as u64 == refusal,
-    }
-}
+use test_inputs::expect;
 
 // The words of an empty set are compared.
 fn emptied_case(s: &[u8], at: usize, out: &mut [u32]) -> Outcome {
-    let refusal = case_input::number(s, at);
-    let count = case_input::number(s, refusal.at);
+    let want = case_input::read_expected(s, at);
     let a = finder::empty_set(out);
-    let o = case_input::same_words(s, count.at, out);
-    let told = is_told(a, refusal.size, count.size);
-    Outcome {
-        at: o.at,
-        good: o.good && told,
-    }
+    case_input::expect_written(s, want, a, out)
 }
 
 // A case of the empty set.
@@ -39,17 +18,21 @@ pub(crate) fn empty_case(s: &[u8], at: usize, out: &mut [u32]) -> Outcome {
     emptied_case(s, room.at, &mut out[..space])
 }
 
+// The sizes of a set, held against those that are expected next.
+fn expect_sizes(s: &[u8], at: usize, a: SetSize) -> Outcome {
+    let want = case_input::read_expected(s, at);
+    let distances = case_input::number(s, want.at);
+    Outcome {
+        at: distances.at,
+        difference: expect::set_size(a, want.refusal, want.count, distances.size),
+    }
+}
+
 // The array is read, and its sizes are compared.
 fn checked_case(s: &[u8], at: usize, set: &mut [u32]) -> Outcome {
     let p = case_input::words(s, at, set);
-    let refusal = case_input::number(s, p);
-    let patterns = case_input::number(s, refusal.at);
-    let distances = case_input::number(s, patterns.at);
     let a = finder::check_set(set);
-    Outcome {
-        at: distances.at,
-        good: is_sized(a, refusal.size, patterns.size, distances.size),
-    }
+    expect_sizes(s, p, a)
 }
 
 // A case of the check of a set.
@@ -59,19 +42,19 @@ pub(crate) fn check_case(s: &[u8], at: usize, set: &mut [u32]) -> Outcome {
     checked_case(s, n.at, &mut set[..length])
 }
 
+// The sizes and the words of a set, held against those that are expected next.
+fn expect_set(s: &[u8], at: usize, a: SetSize, set: &[u32]) -> Outcome {
+    let sizes = expect_sizes(s, at, a);
+    let d = sizes.difference;
+    let o = case_input::expect_words(s, sizes.at, set);
+    case_input::after(d, o)
+}
+
 // The values are read and added, and the array is compared.
 fn added_case(s: &[u8], at: usize, set: &mut [u32], values: &mut [i32]) -> Outcome {
     let q = case_input::values(s, at, values);
-    let refusal = case_input::number(s, q);
-    let patterns = case_input::number(s, refusal.at);
-    let distances = case_input::number(s, patterns.at);
     let a = finder::add_pattern(set, values);
-    let o = case_input::same_words(s, distances.at, set);
-    let told = is_sized(a, refusal.size, patterns.size, distances.size);
-    Outcome {
-        at: o.at,
-        good: o.good && told,
-    }
+    expect_set(s, q, a, set)
 }
 
 // The array is read, and the values are cut to their length.

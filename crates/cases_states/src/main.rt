@@ -1,15 +1,17 @@
-// Search states that were not handed back by a search: those that document 01's refusal 8 names, each refused under 8 with the state handed back as it was and
-// no word written, by calls with a value and by calls with none and a hit array that is too short; and states just beside them, which are accepted.
-// The set has one pattern of three rising values, so its automaton has the nodes 0 to 3, of depths 0 to 3.
+// Search states that were not handed back by a search: those that document 01's refusal 8 names,
+// each refused under 8 with the state handed back as it was and no word written, by calls with a
+// value and by calls with none and a hit array that is too short; and states just beside them,
+// which are accepted. The set has one pattern of three rising values, so its automaton has the
+// nodes 0 to 3, of depths 0 to 3.
 use answers::Counts;
 use answers::SearchState;
 use answers::StreamAnswer;
 use test_inputs::arrays;
+use test_inputs::difference;
+use test_inputs::difference::Difference;
+use test_inputs::expect;
 use test_inputs::tally;
 use test_inputs::tally::Tally;
-
-// What the hit arrays hold before a call.
-const BEFORE: u32 = 4000000007;
 
 // A state whose ring starts at a slot, with these places and values in its first three slots.
 fn state_at(
@@ -38,125 +40,199 @@ fn state_at(
     }
 }
 
-fn is_refused(a: StreamAnswer) -> bool {
-    match a {
-        StreamAnswer::Ended(_) => false,
-        StreamAnswer::Full(_) => false,
-        StreamAnswer::Refused(r) => answers::refusal_number(r) == 8,
+// A refusal under 8, or else an end with nothing counted, is expected.
+fn expect_answer(a: StreamAnswer, refused: bool) -> Difference {
+    if refused {
+        return expect::stream_refused(a, 8);
     }
+    let counts = Counts {
+        taken: 0,
+        hits: 0,
+        attempts: 0,
+    };
+    expect::streamed(a, true, counts)
 }
 
-fn is_none(c: Counts) -> bool {
-    c.taken == 0 && c.hits == 0 && c.attempts == 0
+// The state and every word of the hit array are expected to be as they were.
+fn expect_kept(before: SearchState, after: SearchState, hits: &[u32]) -> Difference {
+    difference::first(
+        test_states::expect_same(before, after),
+        difference::expect_held(hits, 0, arrays::BEFORE),
+    )
 }
 
-fn has_ended(a: StreamAnswer) -> bool {
-    match a {
-        StreamAnswer::Ended(c) => is_none(c),
-        StreamAnswer::Full(_) => false,
-        StreamAnswer::Refused(_) => false,
-    }
-}
-
-// Whether a call is refused under 8, or else ends with nothing counted, and leaves the state and every word.
-fn leaves(
+// A call is expected to be refused under 8, or else to end with nothing counted, and to leave the
+// state and every word.
+fn expect_call(
     automaton: &[u32],
     s: SearchState,
     values: &[i32],
     hits: &mut [u32],
     refused: bool,
-) -> bool {
-    arrays::hold(hits, BEFORE);
+) -> Difference {
+    arrays::hold(hits, arrays::BEFORE);
     let r = finder::stream_search(&[1, 3, 0, 3, 0, 1, 1], automaton, s, values, hits);
     let answer = r.answer;
     let after = r.state;
-    let told = if refused {
-        is_refused(answer)
-    } else {
-        has_ended(answer)
-    };
-    let kept = arrays::held_until(hits, 0, BEFORE) == hits.len();
-    told && kept && test_states::same(after, s)
+    difference::first(expect_answer(answer, refused), expect_kept(s, after, hits))
 }
 
-// Whether a state is refused, with a value and with none.
-fn refused(s: SearchState) -> bool {
+// A state is expected to be refused, with a value and with none.
+fn refused(s: SearchState) -> Difference {
     let mut automaton = [0u32; 64];
     let mut hits = [0u32; 4];
     let mut short = [0u32; 1];
     finder::build_automaton(&[1, 3, 0, 3, 0, 1, 1], &mut automaton);
-    let a = leaves(&automaton, s, &[5], &mut hits, true);
-    let b = leaves(&automaton, s, &[], &mut short, true);
-    a && b
+    let a = expect_call(&automaton, s, &[5], &mut hits, true);
+    let b = expect_call(&automaton, s, &[], &mut short, true);
+    difference::first(a, b)
 }
 
-// Whether a call with no values and the state ends.
-fn accepted(s: SearchState) -> bool {
+// A call with no values and the state is expected to end.
+fn accepted(s: SearchState) -> Difference {
     let mut automaton = [0u32; 64];
     let mut hits = [0u32; 2];
     finder::build_automaton(&[1, 3, 0, 3, 0, 1, 1], &mut automaton);
-    leaves(&automaton, s, &[], &mut hits, false)
+    expect_call(&automaton, s, &[], &mut hits, false)
 }
 
-fn good_states() -> Tally {
-    let a = accepted(SearchState::new());
-    let b = accepted(state_at(0, 3, 3, 3, &[0, 1, 2], &[1, 2, 3]));
-    let c = accepted(state_at(255, 3, 0, 3, &[0, 1, 2], &[5, 5, 5]));
-    let d = accepted(state_at(254, 300, 2, 2, &[44, 299, 0], &[-2147483648, 7, 0]));
-    let e = accepted(state_at(7, 1048576, 1, 1, &[1048575, 0, 0], &[1, 0, 0]));
-    let f = accepted(state_at(9, 1, 1, 1, &[0, 0, 0], &[2147483647, 0, 0]));
-    let t = tally::count(tally::count(tally::none(), a), b);
-    let u = tally::count(tally::count(t, c), d);
-    tally::count(tally::count(u, e), f)
+fn good_states(group: &[u8]) -> Tally {
+    let mut t = tally::none();
+    t = tally::named(t, b"a new search", accepted(SearchState::new()));
+    t = tally::named(
+        t,
+        b"three rising minima",
+        accepted(state_at(0, 3, 3, 3, &[0, 1, 2], &[1, 2, 3])),
+    );
+    t = tally::named(
+        t,
+        b"three equal minima over the end of the ring",
+        accepted(state_at(255, 3, 0, 3, &[0, 1, 2], &[5, 5, 5])),
+    );
+    t = tally::named(
+        t,
+        b"a minimum as far back as can be",
+        accepted(state_at(254, 300, 2, 2, &[44, 299, 0], &[-2147483648, 7, 0])),
+    );
+    t = tally::named(
+        t,
+        b"all values taken",
+        accepted(state_at(7, 1048576, 1, 1, &[1048575, 0, 0], &[1, 0, 0])),
+    );
+    t = tally::named(
+        t,
+        b"one value taken",
+        accepted(state_at(9, 1, 1, 1, &[0, 0, 0], &[2147483647, 0, 0])),
+    );
+    tally::report(group, t);
+    t
 }
 
 // Falling values; places that do not rise.
-fn disordered() -> Tally {
-    let a = refused(state_at(0, 3, 0, 3, &[0, 1, 2], &[1, 3, 2]));
-    let b = refused(state_at(255, 3, 0, 3, &[0, 1, 2], &[3, 1, 2]));
-    let c = refused(state_at(0, 3, 0, 3, &[0, 2, 2], &[1, 2, 3]));
-    let d = refused(state_at(254, 3, 0, 3, &[1, 0, 2], &[1, 2, 3]));
-    let e = refused(state_at(0, 300, 0, 257, &[299, 299, 299], &[0, 0, 0]));
-    let t = tally::count(tally::count(tally::none(), a), b);
-    tally::count(tally::count(tally::count(t, c), d), e)
+fn disordered(before: Tally) -> Tally {
+    let mut t = before;
+    t = tally::named(
+        t,
+        b"falling values",
+        refused(state_at(0, 3, 0, 3, &[0, 1, 2], &[1, 3, 2])),
+    );
+    t = tally::named(
+        t,
+        b"falling values over the end of the ring",
+        refused(state_at(255, 3, 0, 3, &[0, 1, 2], &[3, 1, 2])),
+    );
+    t = tally::named(
+        t,
+        b"equal places",
+        refused(state_at(0, 3, 0, 3, &[0, 2, 2], &[1, 2, 3])),
+    );
+    t = tally::named(
+        t,
+        b"falling places",
+        refused(state_at(254, 3, 0, 3, &[1, 0, 2], &[1, 2, 3])),
+    );
+    tally::named(
+        t,
+        b"more minima than slots",
+        refused(state_at(0, 300, 0, 257, &[299, 299, 299], &[0, 0, 0])),
+    )
 }
 
-// A last place that is not the last taken; a first one that is too far back; minima with nothing taken, and none with something taken.
-fn misplaced() -> Tally {
-    let a = refused(state_at(0, 4, 0, 3, &[0, 1, 2], &[1, 2, 3]));
-    let b = refused(state_at(0, 2, 0, 3, &[0, 1, 2], &[1, 2, 3]));
-    let c = refused(state_at(254, 300, 0, 2, &[43, 299, 0], &[1, 7, 0]));
-    let d = refused(state_at(0, 0, 0, 1, &[0, 0, 0], &[0, 0, 0]));
-    let e = refused(state_at(0, 3, 0, 0, &[0, 1, 2], &[1, 2, 3]));
-    let t = tally::count(tally::count(tally::none(), a), b);
-    tally::count(tally::count(tally::count(t, c), d), e)
+// A last place that is not the last taken; a first one that is too far back; minima with nothing
+// taken, and none with something taken.
+fn misplaced(before: Tally) -> Tally {
+    let mut t = before;
+    t = tally::named(
+        t,
+        b"a last place before the last taken",
+        refused(state_at(0, 4, 0, 3, &[0, 1, 2], &[1, 2, 3])),
+    );
+    t = tally::named(
+        t,
+        b"a last place behind the last taken",
+        refused(state_at(0, 2, 0, 3, &[0, 1, 2], &[1, 2, 3])),
+    );
+    t = tally::named(
+        t,
+        b"a first place too far back",
+        refused(state_at(254, 300, 0, 2, &[43, 299, 0], &[1, 7, 0])),
+    );
+    t = tally::named(
+        t,
+        b"a minimum with nothing taken",
+        refused(state_at(0, 0, 0, 1, &[0, 0, 0], &[0, 0, 0])),
+    );
+    tally::named(
+        t,
+        b"no minimum with something taken",
+        refused(state_at(0, 3, 0, 0, &[0, 1, 2], &[1, 2, 3])),
+    )
 }
 
-// A node outside of the automaton; one deeper than the values taken; more values taken than a search takes.
-fn outside() -> Tally {
-    let a = refused(state_at(0, 3, 4, 3, &[0, 1, 2], &[1, 2, 3]));
-    let b = refused(state_at(0, 3, 4294967295, 3, &[0, 1, 2], &[1, 2, 3]));
-    let c = refused(state_at(0, 1, 2, 1, &[0, 0, 0], &[1, 0, 0]));
-    let d = refused(state_at(0, 0, 1, 0, &[0, 0, 0], &[0, 0, 0]));
-    let e = refused(state_at(0, 1048577, 0, 1, &[1048576, 0, 0], &[1, 0, 0]));
-    let f = refused(state_at(0, 4294967295, 0, 1, &[4294967294, 0, 0], &[1, 0, 0]));
-    let t = tally::count(tally::count(tally::none(), a), b);
-    let u = tally::count(tally::count(t, c), d);
-    tally::count(tally::count(u, e), f)
+// A node outside of the automaton; one deeper than the values taken; more values taken than a
+// search takes.
+fn outside(before: Tally) -> Tally {
+    let mut t = before;
+    t = tally::named(
+        t,
+        b"the node behind the last",
+        refused(state_at(0, 3, 4, 3, &[0, 1, 2], &[1, 2, 3])),
+    );
+    t = tally::named(
+        t,
+        b"the highest node",
+        refused(state_at(0, 3, 4294967295, 3, &[0, 1, 2], &[1, 2, 3])),
+    );
+    t = tally::named(
+        t,
+        b"a node deeper than the values taken",
+        refused(state_at(0, 1, 2, 1, &[0, 0, 0], &[1, 0, 0])),
+    );
+    t = tally::named(
+        t,
+        b"a node below the root with nothing taken",
+        refused(state_at(0, 0, 1, 0, &[0, 0, 0], &[0, 0, 0])),
+    );
+    t = tally::named(
+        t,
+        b"one value too many taken",
+        refused(state_at(0, 1048577, 0, 1, &[1048576, 0, 0], &[1, 0, 0])),
+    );
+    tally::named(
+        t,
+        b"the most values taken",
+        refused(state_at(0, 4294967295, 0, 1, &[4294967294, 0, 0], &[1, 0, 0])),
+    )
 }
 
-fn tell(name: &[u8], t: Tally) {
-    io::write_all(1, name);
-    io::print_decimal(1, t.cases);
-    io::write_all(1, b" cases, ");
-    io::print_decimal(1, t.failed);
-    io::write_all(1, b" failed\n");
+fn bad_states(group: &[u8]) -> Tally {
+    let t = outside(misplaced(disordered(tally::none())));
+    tally::report(group, t);
+    t
 }
 
 fn main() {
-    let a = good_states();
-    tell(b"accepted: ", a);
-    let b = tally::both(disordered(), tally::both(misplaced(), outside()));
-    tell(b"refused: ", b);
-    tell(b"in all ", tally::both(a, b));
+    let a = good_states(b"accepted: ");
+    let b = bad_states(b"refused: ");
+    tally::report(b"in all ", tally::both(a, b));
 }

@@ -1,18 +1,17 @@
 // One call, held against the reference.
-ghost use Prim.Native.Nat.{_≤_, _<_};
+ghost use Rattle.lists.specs.Prelude.{_<_};
 use answers::Counts;
 use answers::SearchState;
-use answers::StreamAnswer;
 use answers::Streamed;
 use test_inputs::arrays;
+use test_inputs::difference;
+use test_inputs::difference::Difference;
+use test_inputs::expect;
 
-// What the hit arrays hold before a call.
-const BEFORE: u32 = 4000000007;
-
-// The state that a call hands back, and whether all that it answered is right.
+// The state that a call hands back, and what differs in all that it answered.
 pub struct Step {
     pub state: SearchState,
-    pub good: bool,
+    pub difference: Difference,
 }
 
 // What a call must do: take the values before a place, write so many words, make so many attempts.
@@ -39,31 +38,12 @@ fn call(
     finder::stream_search(set, automaton, state, &text[a..e], &mut hits[..n])
 }
 
-fn same_counts(c: Counts, taken: usize, hits: usize, attempts: usize) -> bool {
-    c.taken == taken && c.hits == hits && c.attempts == attempts
-}
-
-fn is_told(a: StreamAnswer, ended: bool, taken: usize, hits: usize, attempts: usize) -> bool {
-    match a {
-        StreamAnswer::Ended(c) => ended && same_counts(c, taken, hits, attempts),
-        StreamAnswer::Full(c) => !ended && same_counts(c, taken, hits, attempts),
-        StreamAnswer::Refused(_) => false,
-    }
-}
-
-fn is_refused(a: StreamAnswer, number: u32) -> bool {
-    match a {
-        StreamAnswer::Ended(_) => false,
-        StreamAnswer::Full(_) => false,
-        StreamAnswer::Refused(r) => answers::refusal_number(r) == number,
-    }
-}
-
 fn less(a: usize, b: usize) -> usize {
     if a < b { 0 } else { a - b }
 }
 
-// The place up to which the reference takes values: one more while enough words are free for the hits of any value.
+// The place up to which the reference takes values: one more while enough words are free for the
+// hits of any value.
 fn place_reached(
     set: &[u32],
     text: &[i32],
@@ -87,7 +67,7 @@ fn place_reached(
 }
 
 // What a call with the values between two places must do; the hits are put to the array.
-fn expect(
+fn expect_call(
     set: &[u32],
     text: &[i32],
     from: usize,
@@ -96,7 +76,7 @@ fn expect(
     want: &mut [u32],
 ) -> Expected {
     let to = place_reached(set, text, from, end, room, want);
-    arrays::hold(want, BEFORE);
+    arrays::hold(want, arrays::BEFORE);
     let words = test_plain::hits_between(set, text, from, to, want);
     let attempts = test_plain::attempts_between(set, text, from, to);
     Expected {
@@ -104,6 +84,36 @@ fn expect(
         words,
         attempts,
     }
+}
+
+// What a call answered, the hits that it wrote, and the state that it handed back, held against
+// what is expected.
+fn expect_step(
+    set: &[u32],
+    automaton: &[u32],
+    s: Streamed,
+    text: &[i32],
+    want: &[u32],
+    hits: &[u32],
+    x: Expected,
+    ended: bool,
+    from: usize,
+) -> Difference {
+    let answer = s.answer;
+    let state = s.state;
+    let counts = Counts {
+        taken: less(x.to, from),
+        hits: x.words / 2,
+        attempts: x.attempts,
+    };
+    let answered = difference::first(
+        expect::streamed(answer, ended, counts),
+        difference::expect_words(want, hits),
+    );
+    difference::first(
+        answered,
+        test_states::expect_after(state, set, automaton, text, x.to),
+    )
 }
 
 fn step_in(
@@ -116,28 +126,19 @@ fn step_in(
     hits: &mut [u32],
     want: &mut [u32],
 ) -> Step {
-    let from = test_states::wide(state.taken);
-    let x = expect(set, text, from, end, room, want);
-    arrays::hold(hits, BEFORE);
+    let from = arrays::wide(state.taken);
+    let x = expect_call(set, text, from, end, room, want);
+    arrays::hold(hits, arrays::BEFORE);
     let s = call(set, automaton, state, text, from, end, room, hits);
     let after = s.state;
-    let answer = s.answer;
-    let told = is_told(
-        answer,
-        x.to == end,
-        less(x.to, from),
-        x.words / 2,
-        x.attempts,
-    );
-    let same = arrays::alike(hits, want);
-    let right = test_states::is_after(after, set, automaton, text, x.to);
     Step {
         state: after,
-        good: told && right && same == hits.len(),
+        difference: expect_step(set, automaton, s, text, want, hits, x, x.to == end, from),
     }
 }
 
-// A call with the values of the text from those taken up to an end, and a hit array of so many words.
+// A call with the values of the text from those taken up to an end, and a hit array of so many
+// words.
 pub(crate) fn make_step(
     set: &[u32],
     automaton: &[u32],
@@ -151,33 +152,39 @@ pub(crate) fn make_step(
     step_in(set, automaton, state, text, end, room, &mut hits, &mut want)
 }
 
-fn refuses_in(
-    set: &[u32],
-    automaton: &[u32],
-    state: SearchState,
-    text: &[i32],
-    room: usize,
-    number: u32,
-    hits: &mut [u32],
-) -> bool {
-    arrays::hold(hits, BEFORE);
-    let s = call(set, automaton, state, text, 0, text.len(), room, hits);
+// A refusal by the number, the state as it was, and no word written are expected.
+fn expect_unchanged(s: Streamed, state: SearchState, hits: &[u32], number: u64) -> Difference {
     let answer = s.answer;
-    let told = is_refused(answer, number);
-    let untouched = arrays::held_until(hits, 0, BEFORE);
     let after = s.state;
-    told && untouched == hits.len() && test_states::same(after, state)
+    let kept = difference::expect_held(hits, 0, arrays::BEFORE);
+    let same = difference::first(kept, test_states::expect_same(state, after));
+    difference::first(expect::stream_refused(answer, number), same)
 }
 
-// Whether a call with these values is refused by the number, hands the state back as it was and writes nothing.
-pub(crate) fn refuses(
+fn expect_refused_in(
     set: &[u32],
     automaton: &[u32],
     state: SearchState,
     text: &[i32],
     room: usize,
-    number: u32,
-) -> bool {
+    number: u64,
+    hits: &mut [u32],
+) -> Difference {
+    arrays::hold(hits, arrays::BEFORE);
+    let s = call(set, automaton, state, text, 0, text.len(), room, hits);
+    expect_unchanged(s, state, hits, number)
+}
+
+// A call with these values is expected to be refused by the number, to hand the state back as it
+// was and to write nothing.
+pub(crate) fn expect_refused(
+    set: &[u32],
+    automaton: &[u32],
+    state: SearchState,
+    text: &[i32],
+    room: usize,
+    number: u64,
+) -> Difference {
     let mut hits = [0u32; 256];
-    refuses_in(set, automaton, state, text, room, number, &mut hits)
+    expect_refused_in(set, automaton, state, text, room, number, &mut hits)
 }

@@ -2,6 +2,9 @@
 use crate::calls;
 use answers::SearchState;
 use test_inputs::arrays;
+use test_inputs::difference;
+use test_inputs::difference::Difference;
+use test_inputs::difference::Part;
 use test_inputs::texts;
 
 // The words that a hit array must have.
@@ -20,15 +23,15 @@ fn other_automaton(
     s: SearchState,
     text: &[i32],
     seed: usize,
-) -> bool {
+) -> Difference {
     let i = texts::pick(
         seed,
         8 * arrays::smaller(number_of_nodes(set, automaton), 1000),
     );
     let before = arrays::number(automaton, i);
     arrays::put(automaton, i, arrays::smaller(before, 100000) + 1);
-    let a = calls::refuses(set, automaton, s, text, 256, 7);
-    let b = calls::refuses(
+    let a = calls::expect_refused(set, automaton, s, text, 256, 7);
+    let b = calls::expect_refused(
         set,
         automaton,
         test_states::changed(s, 4294967295, s.taken),
@@ -37,46 +40,47 @@ fn other_automaton(
         7,
     );
     arrays::put(automaton, i, before);
-    a && b
+    difference::first(a, b)
 }
 
 // A hit array one word too short, with values or with none: 10.
-fn short_hits(set: &[u32], automaton: &[u32], s: SearchState, text: &[i32]) -> bool {
+fn short_hits(set: &[u32], automaton: &[u32], s: SearchState, text: &[i32]) -> Difference {
     let n = need(set);
     if n == 0 {
-        return false;
+        return difference::expect_truth(Part::Patterns, true, false);
     }
-    let a = calls::refuses(set, automaton, s, text, n - 1, 10);
-    let b = calls::refuses(set, automaton, s, &[], n - 1, 10);
-    a && b
+    let a = calls::expect_refused(set, automaton, s, text, n - 1, 10);
+    let b = calls::expect_refused(set, automaton, s, &[], n - 1, 10);
+    difference::first(a, b)
 }
 
 // The empty set: 1. What is no set: 5. A good set to which the automaton does not belong: 7.
-fn other_sets(automaton: &[u32], s: SearchState, text: &[i32]) -> bool {
-    let a = calls::refuses(&[0, 0, 0], automaton, s, text, 256, 1);
-    let b = calls::refuses(&[1, 1, 0, 1, 1], automaton, s, text, 256, 5);
-    let c = calls::refuses(&[2, 3, 0, 1, 3, 0, 0, 0], automaton, s, text, 256, 7);
-    a && b && c
+fn other_sets(automaton: &[u32], s: SearchState, text: &[i32]) -> Difference {
+    let a = calls::expect_refused(&[0, 0, 0], automaton, s, text, 256, 1);
+    let b = calls::expect_refused(&[1, 1, 0, 1, 1], automaton, s, text, 256, 5);
+    let c = calls::expect_refused(&[2, 3, 0, 1, 3, 0, 0, 0], automaton, s, text, 256, 7);
+    difference::first(a, difference::first(b, c))
 }
 
-fn smaller_automaton(s: SearchState, text: &[i32], automaton: &mut [u32]) -> bool {
+fn smaller_automaton(s: SearchState, text: &[i32], automaton: &mut [u32]) -> Difference {
     finder::build_automaton(&[1, 1, 0, 1, 0], automaton);
     if s.node < 2 {
-        return true;
+        return difference::none();
     }
-    calls::refuses(&[1, 1, 0, 1, 0], automaton, s, text, 256, 8)
+    calls::expect_refused(&[1, 1, 0, 1, 0], automaton, s, text, 256, 8)
 }
 
 // Another good set with its own automaton, of two nodes, which has not got the state's node: 8.
-fn other_search(s: SearchState, text: &[i32]) -> bool {
+fn other_search(s: SearchState, text: &[i32]) -> Difference {
     let mut automaton = [0u32; 32];
     smaller_automaton(s, text, &mut automaton)
 }
 
-// A node outside of the automaton, more values taken than a search takes, and minima that do not end with the last value taken: 8.
-fn broken_states(set: &[u32], automaton: &[u32], s: SearchState, text: &[i32]) -> bool {
+// A node outside of the automaton, more values taken than a search takes, and minima that do not
+// end with the last value taken: 8.
+fn broken_states(set: &[u32], automaton: &[u32], s: SearchState, text: &[i32]) -> Difference {
     let n = arrays::narrow(number_of_nodes(set, automaton));
-    let a = calls::refuses(
+    let a = calls::expect_refused(
         set,
         automaton,
         test_states::changed(s, n, s.taken),
@@ -84,7 +88,7 @@ fn broken_states(set: &[u32], automaton: &[u32], s: SearchState, text: &[i32]) -
         256,
         8,
     );
-    let b = calls::refuses(
+    let b = calls::expect_refused(
         set,
         automaton,
         test_states::changed(s, 0, 1048577),
@@ -92,7 +96,7 @@ fn broken_states(set: &[u32], automaton: &[u32], s: SearchState, text: &[i32]) -
         0,
         8,
     );
-    let c = calls::refuses(
+    let c = calls::expect_refused(
         set,
         automaton,
         test_states::changed(s, s.node, std::num::wrapping_add_u32(s.taken, 1)),
@@ -100,23 +104,23 @@ fn broken_states(set: &[u32], automaton: &[u32], s: SearchState, text: &[i32]) -
         256,
         8,
     );
-    a && b && c
+    difference::first(a, difference::first(b, c))
 }
 
-// Whether refused calls of a kind that the seed gives are refused.
-pub(crate) fn all_refused(
+// Calls of a kind that the seed gives, which are expected to be refused.
+pub(crate) fn expect_all_refused(
     set: &[u32],
     automaton: &mut [u32],
     s: SearchState,
     text: &[i32],
     seed: usize,
-) -> bool {
+) -> Difference {
     match texts::pick(seed, 9) {
         0 => other_automaton(set, automaton, s, text, texts::next(seed)),
         1 => short_hits(set, automaton, s, text),
         2 => other_sets(automaton, s, text),
         3 => other_search(s, text),
         4 => broken_states(set, automaton, s, text),
-        _ => true,
+        _ => difference::none(),
     }
 }

@@ -1,12 +1,16 @@
 // Runs: lists of calls from a new state.
-ghost use Prim.Native.Nat.{_<_};
+ghost use Rattle.lists.specs.Prelude.{_<_};
 use crate::calls;
 use crate::refused;
 use answers::SearchState;
 use test_inputs::arrays;
+use test_inputs::difference;
+use test_inputs::difference::Difference;
+use test_inputs::difference::Part;
 use test_inputs::texts;
 
-// One call of a run, after refused ones: up to 12 values, and a hit array of at least 2 words for each pattern.
+// One call of a run, after refused ones: up to 12 values, and a hit array of at least 2 words for
+// each pattern.
 fn next_call(
     set: &[u32],
     automaton: &mut [u32],
@@ -15,39 +19,53 @@ fn next_call(
     n: usize,
     seed: usize,
 ) -> calls::Step {
-    let refused = refused::all_refused(set, automaton, s, text, seed);
+    let refused = refused::expect_all_refused(set, automaton, s, text, seed);
     let t = texts::next(seed);
-    let end = arrays::smaller(test_states::wide(s.taken) + texts::pick(t, 12), n);
+    let end = arrays::smaller(arrays::wide(s.taken) + texts::pick(t, 12), n);
     let room = 2 * test_plain::pattern_count(set) + texts::pick(texts::next(t), 16);
     let step = calls::make_step(set, automaton, s, text, end, room);
     let after = step.state;
+    let d = step.difference;
     calls::Step {
         state: after,
-        good: step.good && refused,
+        difference: difference::first(refused, d),
     }
 }
 
-// Whether a run over the first n values of a text goes right to their end.
-fn goes_right(set: &[u32], automaton: &mut [u32], text: &[i32], n: usize, seed: usize) -> bool {
+// What differs first in a run over the first n values of a text, which is expected to go to their
+// end.
+fn expect_run(
+    set: &[u32],
+    automaton: &mut [u32],
+    text: &[i32],
+    n: usize,
+    seed: usize,
+) -> Difference {
     let mut s = SearchState::new();
     let mut t = seed;
     let mut turns: usize = 0;
     while turns < 5000 {
-        if test_states::wide(s.taken) >= n {
-            return true;
+        if arrays::wide(s.taken) >= n {
+            return difference::none();
         }
         t = texts::next(texts::next(t));
         let step = next_call(set, automaton, s, text, n, t);
-        if !step.good {
-            return false;
+        let d = step.difference;
+        if !difference::is_none(d) {
+            return d;
         }
         s = step.state;
         turns += 1;
     }
-    false
+    difference::expect_size(Part::Taken, n, arrays::wide(s.taken))
 }
 
-fn random_in(number: usize, set: &mut [u32], automaton: &mut [u32], text: &mut [i32]) -> bool {
+fn random_in(
+    number: usize,
+    set: &mut [u32],
+    automaton: &mut [u32],
+    text: &mut [i32],
+) -> Difference {
     let s = texts::next(number);
     let kind = texts::pick(number, 6);
     let n = texts::pick(s, 120);
@@ -55,11 +73,11 @@ fn random_in(number: usize, set: &mut [u32], automaton: &mut [u32], text: &mut [
     let k = texts::pick(t, 4) + 1;
     let u = test_sets::make(set, text, kind, k, 9, t);
     finder::build_automaton(set, automaton);
-    goes_right(set, automaton, text, n, u)
+    expect_run(set, automaton, text, n, u)
 }
 
 // A text of up to 120 values, and up to 5 patterns of up to 10.
-pub(crate) fn random_case(number: usize) -> bool {
+pub(crate) fn random_case(number: usize) -> Difference {
     let mut set = [0u32; 80];
     let mut automaton = [0u32; 850];
     let mut text = [0i32; 120];
@@ -85,7 +103,7 @@ fn put_text(text: &mut [i32; 600], rises: bool) {
     }
 }
 
-// One call up to an end, and whether all was right before it too.
+// One call up to an end, behind another one.
 fn cut(
     before: calls::Step,
     set: &[u32],
@@ -96,43 +114,59 @@ fn cut(
     let s = before.state;
     let step = calls::make_step(set, automaton, s, text, end, 2048);
     let after = step.state;
+    let d = step.difference;
+    let earlier = before.difference;
     calls::Step {
         state: after,
-        good: before.good && step.good,
+        difference: difference::first(earlier, d),
     }
 }
 
 // Calls that end before the places a, b and c, and one with the rest.
-fn cut_run(set: &[u32], automaton: &[u32], text: &[i32], a: usize, b: usize, c: usize) -> bool {
+fn cut_run(
+    set: &[u32],
+    automaton: &[u32],
+    text: &[i32],
+    a: usize,
+    b: usize,
+    c: usize,
+) -> Difference {
     let start = calls::Step {
         state: SearchState::new(),
-        good: true,
+        difference: difference::none(),
     };
     let x = cut(start, set, automaton, text, a);
     let y = cut(x, set, automaton, text, b);
     let z = cut(y, set, automaton, text, c);
-    cut(z, set, automaton, text, 600).good
+    let last = cut(z, set, automaton, text, 600);
+    let d = last.difference;
+    d
 }
 
-fn cuts_in(set: &mut [u32], automaton: &mut [u32], text: &[i32]) -> bool {
+fn expect_cuts(set: &[u32], automaton: &[u32], text: &[i32]) -> Difference {
+    let a = cut_run(set, automaton, text, 255, 256, 257);
+    let b = cut_run(set, automaton, text, 256, 512, 512);
+    let c = cut_run(set, automaton, text, 257, 511, 513);
+    difference::first(a, difference::first(b, c))
+}
+
+fn cuts_in(set: &mut [u32], automaton: &mut [u32], text: &[i32]) -> Difference {
     finder::empty_set(set);
     test_sets::add(set, text, 256);
     test_sets::add(set, text, 2);
     finder::build_automaton(set, automaton);
-    let a = cut_run(set, automaton, text, 255, 256, 257);
-    let b = cut_run(set, automaton, text, 256, 512, 512);
-    let c = cut_run(set, automaton, text, 257, 511, 513);
-    a && b && c
+    expect_cuts(set, automaton, text)
 }
 
-fn cuts(text: &[i32; 600]) -> bool {
+fn cuts(text: &[i32; 600]) -> Difference {
     let mut set = [0u32; 300];
     let mut automaton = [0u32; 4200];
     cuts_in(&mut set, &mut automaton, text)
 }
 
-// A text of 600 values that are all equal, or rise, cut about the places 256 and 512, and patterns of 256 and of 2 values of it.
-pub(crate) fn cut_case(rises: bool) -> bool {
+// A text of 600 values that are all equal, or rise, cut about the places 256 and 512, and patterns
+// of 256 and of 2 values of it.
+pub(crate) fn cut_case(rises: bool) -> Difference {
     let mut text = [0i32; 600];
     put_text(&mut text, rises);
     cuts(&text)

@@ -1,48 +1,15 @@
-// The worked searches, those on which finders part, hit arrays of two words a pattern and one word less, and a text of no values.
-use crate::expect;
+// The worked searches, those on which finders part, hit arrays of two words a pattern and one word
+// less, and a text of no values.
 use answers::Counts;
-use answers::Filtered;
 use answers::SearchState;
-use answers::StreamAnswer;
+use answers::Streamed;
 use test_inputs::arrays;
+use test_inputs::difference;
+use test_inputs::difference::Difference;
+use test_inputs::difference::Part;
+use test_inputs::expect;
 use test_inputs::tally;
 use test_inputs::tally::Tally;
-
-fn same_counts(c: Counts, taken: usize, hits: usize, attempts: usize) -> bool {
-    c.taken == taken && c.hits == hits && c.attempts == attempts
-}
-
-// Whether a call ended with these counts.
-fn has_ended(a: StreamAnswer, taken: usize, hits: usize, attempts: usize) -> bool {
-    match a {
-        StreamAnswer::Ended(c) => same_counts(c, taken, hits, attempts),
-        StreamAnswer::Full(_) => false,
-        StreamAnswer::Refused(_) => false,
-    }
-}
-
-fn is_full(a: StreamAnswer, taken: usize, hits: usize, attempts: usize) -> bool {
-    match a {
-        StreamAnswer::Ended(_) => false,
-        StreamAnswer::Full(c) => same_counts(c, taken, hits, attempts),
-        StreamAnswer::Refused(_) => false,
-    }
-}
-
-fn is_refused(a: StreamAnswer, number: u32) -> bool {
-    match a {
-        StreamAnswer::Ended(_) => false,
-        StreamAnswer::Full(_) => false,
-        StreamAnswer::Refused(r) => answers::refusal_number(r) == number,
-    }
-}
-
-fn is_found(a: Filtered, hits: usize, candidates: usize) -> bool {
-    match a {
-        Filtered::Found(n, m) => n == hits && m == candidates,
-        Filtered::Refused(_) => false,
-    }
-}
 
 // Adds a pattern, if it has values.
 fn add(set: &mut [u32], values: &[i32]) {
@@ -67,20 +34,38 @@ fn streams(
     want: &[u32],
     attempts: usize,
     hits: &mut [u32],
-) -> bool {
-    arrays::hold(hits, expect::BEFORE);
+) -> Difference {
+    arrays::hold(hits, arrays::BEFORE);
     let s = finder::stream_search(set, automaton, SearchState::new(), text, hits);
     let answer = s.answer;
-    has_ended(answer, text.len(), want.len() / 2, attempts) && expect::holds(hits, want)
+    let counts = Counts {
+        taken: text.len(),
+        hits: want.len() / 2,
+        attempts,
+    };
+    difference::first(
+        expect::streamed(answer, true, counts),
+        difference::expect_front(want, hits),
+    )
 }
 
-fn filters(set: &[u32], text: &[i32], want: &[u32], candidates: usize, hits: &mut [u32]) -> bool {
-    arrays::hold(hits, expect::BEFORE);
+fn filters(
+    set: &[u32],
+    text: &[i32],
+    want: &[u32],
+    candidates: usize,
+    hits: &mut [u32],
+) -> Difference {
+    arrays::hold(hits, arrays::BEFORE);
     let a = finder::filter_search(set, text, hits);
-    is_found(a, want.len() / 2, candidates) && expect::holds(hits, want)
+    difference::first(
+        expect::filtered(a, 0, want.len() / 2, candidates),
+        difference::expect_front(want, hits),
+    )
 }
 
-// Whether both searches list these hits, the one with so many attempts and the other with so many candidates.
+// Both searches are expected to list these hits, the one with so many attempts and the other with
+// so many candidates.
 fn lists(
     set: &[u32],
     automaton: &[u32],
@@ -88,10 +73,10 @@ fn lists(
     want: &[u32],
     attempts: usize,
     candidates: usize,
-) -> bool {
+) -> Difference {
     let mut hits = [0u32; 24];
     let a = streams(set, automaton, text, want, attempts, &mut hits);
-    a && filters(set, text, want, candidates, &mut hits)
+    difference::first(a, filters(set, text, want, candidates, &mut hits))
 }
 
 // The same of the set of one pattern, or of two where the second has values.
@@ -102,14 +87,14 @@ fn finds(
     want: &[u32],
     attempts: usize,
     candidates: usize,
-) -> bool {
+) -> Difference {
     let mut set = [0u32; 20];
     let mut automaton = [0u32; 240];
     make(&mut set, &mut automaton, p, q, &[]);
     lists(&set, &automaton, text, want, attempts, candidates)
 }
 
-fn first_starred() -> bool {
+fn first_starred() -> Difference {
     finds(
         &[1, 4, 3, 4, 1],
         &[],
@@ -120,7 +105,7 @@ fn first_starred() -> bool {
     )
 }
 
-fn second_starred() -> bool {
+fn second_starred() -> Difference {
     finds(
         &[6, 2, 5, 1, 4, 3, 7],
         &[],
@@ -132,46 +117,46 @@ fn second_starred() -> bool {
 }
 
 // An equal value does not close an open minimum.
-fn equal_values() -> bool {
+fn equal_values() -> Difference {
     finds(&[2, 3, 2], &[], &[2, 3, 2, 2, 3, 2], &[2, 0, 5, 0], 8, 2)
 }
 
 // A search goes on from a hit.
-fn overlapping() -> bool {
+fn overlapping() -> Difference {
     finds(&[1, 2], &[], &[1, 2, 3], &[1, 0, 2, 0], 4, 2)
 }
 
 // A shorter pattern that ends with a longer one is a hit too.
-fn shorter_too() -> bool {
+fn shorter_too() -> Difference {
     finds(&[1, 2], &[2, 1, 2], &[5, 3, 4], &[2, 1, 2, 0], 3, 2)
 }
 
 // A distance that leads out of the window is 0.
-fn cut_distance() -> bool {
+fn cut_distance() -> Difference {
     finds(&[2, 1], &[], &[1, 5, 4], &[2, 0], 4, 1)
 }
 
-// Equal keys are not equal trees.
-fn equal_keys() -> bool {
+// Equal fingerprints are not equal trees.
+fn equal_fingerprints() -> Difference {
     finds(&[1, 3, 2], &[], &[2, 3, 1, 3, 2], &[4, 0], 7, 2)
 }
 
-fn starred() -> Tally {
-    tally::count(
-        tally::count(tally::none(), first_starred()),
-        second_starred(),
-    )
+fn starred(t: Tally) -> Tally {
+    let u = tally::named(t, b"first starred text", first_starred());
+    tally::named(u, b"second starred text", second_starred())
 }
 
-fn parting() -> Tally {
-    let t = tally::count(tally::count(tally::none(), equal_values()), overlapping());
-    let u = tally::count(tally::count(t, shorter_too()), cut_distance());
-    tally::count(u, equal_keys())
+fn parting(t: Tally) -> Tally {
+    let a = tally::named(t, b"equal values", equal_values());
+    let b = tally::named(a, b"overlapping hits", overlapping());
+    let c = tally::named(b, b"a shorter pattern too", shorter_too());
+    let d = tally::named(c, b"a distance out of the window", cut_distance());
+    tally::named(d, b"equal fingerprints", equal_fingerprints())
 }
 
 // A hit array of 6 words for 3 patterns is full behind the first hit, and takes no value more.
-fn exact_in(set: &[u32], automaton: &[u32], hits: &mut [u32]) -> bool {
-    arrays::hold(hits, expect::BEFORE);
+fn exact_in(set: &[u32], automaton: &[u32], hits: &mut [u32]) -> Difference {
+    arrays::hold(hits, arrays::BEFORE);
     let s = finder::stream_search(
         set,
         automaton,
@@ -181,20 +166,44 @@ fn exact_in(set: &[u32], automaton: &[u32], hits: &mut [u32]) -> bool {
     );
     let answer = s.answer;
     let state = s.state;
-    is_full(answer, 5, 1, 5) && state.taken == 5 && expect::holds(hits, &[4, 0])
+    let counts = Counts {
+        taken: 5,
+        hits: 1,
+        attempts: 5,
+    };
+    difference::first(
+        expect::streamed(answer, false, counts),
+        expect_kept(5, state, &[4, 0], hits),
+    )
+}
+
+// So many values taken are expected in a state, and these words in a hit array.
+fn expect_kept(taken: u64, s: SearchState, want: &[u32], hits: &[u32]) -> Difference {
+    difference::first(
+        difference::expect(Part::Taken, taken, s.taken as u64),
+        difference::expect_front(want, hits),
+    )
+}
+
+// A refusal under 10, a new state and no word written are expected.
+fn expect_short(s: Streamed, hits: &[u32]) -> Difference {
+    let answer = s.answer;
+    let state = s.state;
+    let same = test_states::expect_same(SearchState::new(), state);
+    difference::first(
+        expect::stream_refused(answer, 10),
+        difference::first(same, difference::expect_front(&[], hits)),
+    )
 }
 
 // One of 5 words is refused under 10.
-fn short_in(set: &[u32], automaton: &[u32], hits: &mut [u32]) -> bool {
-    arrays::hold(hits, expect::BEFORE);
+fn short_in(set: &[u32], automaton: &[u32], hits: &mut [u32]) -> Difference {
+    arrays::hold(hits, arrays::BEFORE);
     let s = finder::stream_search(set, automaton, SearchState::new(), &[4, 2, 3, 1, 5], hits);
-    let answer = s.answer;
-    let state = s.state;
-    let same = state.taken == 0 && state.node == 0 && state.minima == 0;
-    is_refused(answer, 10) && same && expect::holds(hits, &[])
+    expect_short(s, hits)
 }
 
-fn three_found(set: &[u32], automaton: &[u32]) -> bool {
+fn three_found(set: &[u32], automaton: &[u32]) -> Difference {
     lists(
         set,
         automaton,
@@ -205,30 +214,29 @@ fn three_found(set: &[u32], automaton: &[u32]) -> bool {
     )
 }
 
-fn none_found(set: &[u32], automaton: &[u32]) -> bool {
+fn none_found(set: &[u32], automaton: &[u32]) -> Difference {
     lists(set, automaton, &[], &[], 0, 0)
 }
 
-fn exact(set: &[u32], automaton: &[u32]) -> bool {
+fn exact(set: &[u32], automaton: &[u32]) -> Difference {
     let mut hits = [0u32; 6];
     exact_in(set, automaton, &mut hits)
 }
 
-fn short(set: &[u32], automaton: &[u32]) -> bool {
+fn short(set: &[u32], automaton: &[u32]) -> Difference {
     let mut hits = [0u32; 5];
     short_in(set, automaton, &mut hits)
 }
 
 // The three patterns over a text, over no values, and with short hit arrays.
-fn three_over(set: &[u32], automaton: &[u32]) -> Tally {
-    let a = three_found(set, automaton);
-    let b = none_found(set, automaton);
-    let t = tally::count(tally::count(tally::none(), a), b);
-    let c = exact(set, automaton);
-    tally::count(tally::count(t, c), short(set, automaton))
+fn three_over(t: Tally, set: &[u32], automaton: &[u32]) -> Tally {
+    let a = tally::named(t, b"three patterns", three_found(set, automaton));
+    let b = tally::named(a, b"no values", none_found(set, automaton));
+    let c = tally::named(b, b"a hit array of 6 words", exact(set, automaton));
+    tally::named(c, b"a hit array of 5 words", short(set, automaton))
 }
 
-fn three() -> Tally {
+fn three(t: Tally) -> Tally {
     let mut set = [0u32; 20];
     let mut automaton = [0u32; 240];
     make(
@@ -238,11 +246,11 @@ fn three() -> Tally {
         &[3, 1, 4, 2],
         &[1, 2, 3, 5, 4],
     );
-    three_over(&set, &automaton)
+    three_over(t, &set, &automaton)
 }
 
-pub(crate) fn all_cases() -> Tally {
-    let a = starred();
-    let b = parting();
-    tally::both(tally::both(a, b), three())
+pub(crate) fn all_cases(group: &[u8]) -> Tally {
+    let t = three(parting(starred(tally::none())));
+    tally::report(group, t);
+    t
 }

@@ -1,38 +1,63 @@
 // The set of three patterns: 20 words, and 11 nodes.
-use crate::expect;
 use test_inputs::arrays;
+use test_inputs::difference;
+use test_inputs::difference::Difference;
+use test_inputs::expect;
 use test_inputs::tally;
 use test_inputs::tally::Tally;
 
-// The three patterns are added one by one to a set array.
-fn three_in(set: &mut [u32]) -> bool {
-    arrays::hold(set, expect::BEFORE);
-    finder::empty_set(set);
-    let a = expect::has_size(finder::add_pattern(set, &[4, 2, 3, 1, 5]), 1, 5);
-    let b = expect::has_size(finder::add_pattern(set, &[3, 1, 4, 2]), 2, 9);
-    let c = expect::has_size(finder::add_pattern(set, &[1, 2, 3, 5, 4]), 3, 14);
-    a && b && c
+// Adds a pattern to a set array, which then is expected to have so many patterns and distances.
+fn add(
+    before: Difference,
+    set: &mut [u32],
+    values: &[i32],
+    patterns: u64,
+    distances: u64,
+) -> Difference {
+    let a = finder::add_pattern(set, values);
+    difference::first(before, expect::set_size(a, 0, patterns, distances))
 }
 
-// Whether these are the words of the set, and no word behind them is written.
-fn has_words(set: &[u32]) -> bool {
-    expect::holds(
-        set,
+// The first two patterns are added to an empty set.
+fn two_in(set: &mut [u32]) -> Difference {
+    arrays::hold(set, arrays::BEFORE);
+    finder::empty_set(set);
+    let a = add(difference::none(), set, &[4, 2, 3, 1, 5], 1, 5);
+    add(a, set, &[3, 1, 4, 2], 2, 9)
+}
+
+// The three patterns are added one by one.
+fn three_in(set: &mut [u32]) -> Difference {
+    let a = two_in(set);
+    add(a, set, &[1, 2, 3, 5, 4], 3, 14)
+}
+
+// These words of the set are expected, and no word written behind them.
+fn expect_set(set: &[u32]) -> Difference {
+    difference::expect_front(
         &[3, 14, 0, 5, 9, 14, 0, 0, 1, 0, 1, 0, 0, 1, 2, 0, 1, 1, 1, 2],
+        set,
     )
 }
 
-// The automaton has 11 nodes, which are 95 words, in an array of 240; one word less is refused under 10.
-fn has_nodes(set: &[u32]) -> bool {
+// The automaton has 11 nodes, which are 95 words, in an array of 240; one word less is refused
+// under 10.
+fn expect_nodes(set: &[u32]) -> Difference {
     let mut automaton = [0u32; 240];
     let mut short = [0u32; 239];
-    let nodes = expect::told_nodes(finder::build_automaton(set, &mut automaton), 95) == 11;
-    nodes && expect::told_nodes(finder::build_automaton(set, &mut short), 0) == 1010
+    let nodes = expect::built(finder::build_automaton(set, &mut automaton), 0, 11, 95);
+    difference::first(
+        nodes,
+        expect::built(finder::build_automaton(set, &mut short), 10, 0, 0),
+    )
 }
 
-pub(crate) fn all_cases() -> Tally {
+pub(crate) fn all_cases(group: &[u8]) -> Tally {
     let mut set = [0u32; 24];
     let a = three_in(&mut set);
-    let b = a && has_words(&set);
-    tally::count(tally::count(tally::none(), b), has_nodes(&set))
+    let b = difference::first(a, expect_set(&set));
+    let t = tally::named(tally::none(), b"set of three patterns", b);
+    let u = tally::named(t, b"automaton of three patterns", expect_nodes(&set));
+    tally::report(group, u);
+    u
 }

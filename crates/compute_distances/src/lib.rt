@@ -1,18 +1,7 @@
-// The parent distances of values, in time linear in their number: the distances found so far are the links by which the next is sought.
-ghost use mathlib.Core.Path.{_≡_};
-ghost use mathlib.Core.List.{_++_};
-ghost use Prim.Native.Nat.{_≤_, _<_};
-ghost use lib.ListN.{length, getD, take, drop};
-ghost use lib.IntN.{pos};
-ghost use lib.Signed.{leZ};
-ghost use Rattle.lists.specs.Prelude.{tabulate};
+// The parent distances of values, in time linear in their number: the distances found so far are
+// the links by which the next is sought.
+ghost use Rattle.lists.specs.Prelude.{_≡_, _++_, _≤_, _<_, pos, leZ, length, getD, take, drop, tabulate};
 ghost use Rattle.cartesian.specs.Cartesian.{seek, distanceAt, distances};
-
-fn wide(x: u32) -> usize
-    ensures { λ r. ⌜ r ≡ x ⌝ }
-{
-    x as usize
-}
 
 // Is the value at place j not above the one at place i.
 fn not_above(values: &[i32], j: usize, i: usize) -> bool
@@ -22,7 +11,8 @@ fn not_above(values: &[i32], j: usize, i: usize) -> bool
     values[j] <= values[i]
 }
 
-// One more than the place of the parent of place i; 0 where it has none. A place above the value at i is left by its own distance, which `out` has.
+// One more than the place of the parent of place i; 0 where it has none. A place above the value at
+// i is left by its own distance, which `out` has.
 fn seek_parent(values: &[i32], out: &[u32], i: usize) -> usize
     requires { ⌜ (i < length (now values)) × (i ≤ length (now out)) ⌝ }
     requires { ⌜ take i (now out) ≡ tabulate i (distanceAt (now values)) ⌝ }
@@ -34,7 +24,7 @@ fn seek_parent(values: &[i32], out: &[u32], i: usize) -> usize
         if not_above(values, j, i) {
             return k;
         }
-        let d = wide(out[j]);
+        let d = casts::wide(out[j]);
         if d == 0 {
             return 0;
         }

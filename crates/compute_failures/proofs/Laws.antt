@@ -1,21 +1,14 @@
--- The failure lengths by distances, and the ways through the loop that follows them. A tail of m values of the head of n values has the tree of the
--- head of m values exactly if each of its distances, cut at its place in the tail, is the distance there (`tail-iff`); so a tail of a head of
--- i + 1 values is a tail of the head of i values that the last distance continues (`tail-next`), and a tail of a tail is a tail (`tail-of-tail`).
-use mathlib.Core.Path.{_≡_, refl, sym, _∙_, ap, subst}
-use mathlib.Core.Bool.{Bool, true, false}
-use mathlib.Core.Logic.{_↔_}
-use mathlib.Core.List.{List}
-use Prim.Native.Nat.{ℕ, zero, suc, pred, _+_, _-_, _≤_, _<_, zero-le}
-use native.Mathlib.Omega.{arith}
-use native.Mathlib.Decide.{decLt}
-use native.Mathlib.Numerals.{add-one}
-use borrow.Author.Tests.{le-leb, lt-leb, eq-eqb, eqb-true, eqb-false}
-use lib.Dec.{T, eqb}
-use lib.ListN.{length, getD, take, drop, length-drop}
-use lib.Seq.{length-take-le, getD-take, getD-drop, ext-getD}
-use Rattle.lists.specs.Prelude.{tabulate, lastBelow, lastOf}
-use Rattle.lists.proofs.Order.{true-T}
-use Rattle.lists.proofs.Lists.{getD-tabulate, lastBelow-le, lastBelow-passes, lastBelow-none, lastBelow-skip}
+-- The failure lengths by distances, and the ways through the loop that follows them. A tail of m
+-- values of the head of n values has the tree of the head of m values exactly if each of its
+-- distances, cut at its place in the tail, is the distance there (`tail-iff`); so a tail of a head
+-- of i + 1 values is a tail of the head of i values that the last distance continues (`tail-next`),
+-- and a tail of a tail is a tail (`tail-of-tail`).
+use Rattle.lists.proofs.Tables.{filled-at}
+use Rattle.lists.proofs.Prelude.{_≡_, _∙_, ap, sym, refl, subst, _↔_, Bool, true, false, List, ℕ, zero, suc, pred, _+_, _-_, _≤_, _<_, zero-le, T, eqb, length}
+use Rattle.lists.proofs.Prelude.{getD, take, drop, length-drop, length-take-le, getD-take, getD-drop, ext-getD, add-one, decLt, arith, eq-eqb, le-leb, lt-leb}
+use Rattle.lists.proofs.Prelude.{eqb-true, eqb-false, lastOf, tabulate, lastBelow}
+use Rattle.lists.proofs.Tests.{true-T}
+use Rattle.lists.proofs.LastBelow.{lastBelow-le, lastBelow-passes, lastBelow-none, lastBelow-skip}
 use Rattle.cartesian.specs.Cartesian.{tree, sameTree, distances, cut}
 use Rattle.cartesian.specs.Windows.{suffixDistances}
 use Rattle.cartesian.proofs.Seek.{getD-distances, distance-le}
@@ -48,7 +41,9 @@ length-suffix ds n m h l = rw (length-cutFrom, length-drop, length-take-le n ds 
 getD-suffix : (ds : List ℕ) (n m k : ℕ) → m ≤ n → n ≤ length ds → k < m → getD (suffixDistances m (take n ds)) k 0 ≡ cut k (getD ds (n - m + k) 0)
 getD-suffix ds n m k h l b =
     let e : 0 + k ≡ k = omega arith in
-    rw (getD-cutFrom 0 (drop (length (take n ds) - m) (take n ds)) k 0 (rw (length-drop, length-take-le n ds l) (omega arith)), length-take-le n ds l, getD-drop, getD-take n ds (n - m + k) 0 (omega arith), e) refl
+    let within : k < length (drop (length (take n ds) - m) (take n ds)) = rw (length-drop, length-take-le n ds l) (omega arith) in
+    rw (getD-cutFrom 0 (drop (length (take n ds) - m) (take n ds)) k 0 within, length-take-le n ds l, getD-drop)
+    (rw (getD-take n ds (n - m + k) 0 (omega arith), e) refl)
 
 pub tail-iff : (ds : List ℕ) (n m : ℕ) → T (realizable ds) → m ≤ n → n ≤ length ds → T (tailFits ds n m) ↔ TailAgrees ds n m
 tail-iff ds n m r h l =
@@ -60,7 +55,9 @@ tail-iff ds n m r h l =
       λ f.
           let e : suffixDistances m (take n ds) ≡ take m ds =
           ext-getD 0 (suffixDistances m (take n ds)) (take m ds) (length-suffix ds n m h l ∙ sym (length-take-le m ds (omega arith)))
-          (λ k b. let b' : k < m = subst (λ (v : ℕ). k < v) (length-suffix ds n m h l) b in getD-suffix ds n m k h l b' ∙ f k b' ∙ sym (getD-take m ds k 0 b')) in
+          (λ k b.
+          let b' : k < m = subst (λ (v : ℕ). k < v) (length-suffix ds n m h l) b in
+          getD-suffix ds n m k h l b' ∙ f k b' ∙ sym (getD-take m ds k 0 b')) in
           eq-sameTree (tree (lastOf m (take n xs))) (tree (take m xs)) (law .1 (tail-distances ds n m r ∙ e ∙ sym (head-distances ds m r))),
     )
 
@@ -135,13 +132,15 @@ failure-fits ds n r l = rw failure-is (go (lastBelow (tailFits ds n) n) refl)
 
 -- ---- the search for the next failure length
 
--- the tail of m values of the head of i values fits, and the head of i + 1 values has no fitting proper tail of more than m + 1
+-- the tail of m values of the head of i values fits, and the head of i + 1 values has no fitting
+-- proper tail of more than m + 1
 pub record Candidate (ds : List ℕ) (i m : ℕ) : Type 0 where
   pub proper : m < i
   pub fits : TailAgrees ds i m
   pub longest : failureLength ds (suc i) ≡ pred (lastBelow (tailFits ds (suc i)) (suc (suc m)))
 
--- a tail of the head of i + 1 values fits only where one of one value less does and the last distance continues it
+-- a tail of the head of i + 1 values fits only where one of one value less does and the last
+-- distance continues it
 next-none : (ds : List ℕ) (i j : ℕ) → T (realizable ds) → i < length ds → j ≤ suc i → 0 < j
     → ((p : ℕ) → j ≡ suc p → TailAgrees ds i p → cut p (getD ds i 0) ≡ getD ds p 0 → ⊥) → T (tailFits ds (suc i) j) → ⊥
 next-none ds i zero r l h z f t = omega arith
@@ -163,15 +162,19 @@ search-first ds i r h l =
     }
 
 -- the last distance continues the candidate: it is the tail sought
-pub search-yes : (ds : List ℕ) (i m : ℕ) → T (realizable ds) → i < length ds → Candidate ds i m → eqb (cut m (getD ds i 0)) (getD ds m 0) ≡ true → m + 1 ≡ failureLength ds (suc i)
+pub search-yes : (ds : List ℕ) (i m : ℕ) → T (realizable ds) → i < length ds → Candidate ds i m → eqb (cut m (getD ds i 0)) (getD ds m 0) ≡ true
+    → m + 1 ≡ failureLength ds (suc i)
 unfolding lastBelow
 search-yes ds i m r l c a =
     let b = c .proper in
-    let t = tail-iff ds (suc i) (suc m) r (omega arith) (omega arith) .1 (tail-next ds i m (omega arith) (c .fits) (eqb-true (cut m (getD ds i 0)) (getD ds m 0) a)) in
+    let t =
+    tail-iff ds (suc i) (suc m) r (omega arith) (omega arith) .1
+    (tail-next ds i m (omega arith) (c .fits) (eqb-true (cut m (getD ds i 0)) (getD ds m 0) a)) in
     add-one m ∙ sym (c .longest ∙ rw (true-T (tailFits ds (suc i) (suc m)) t) refl)
 
 -- it does not: the next candidate is the longest proper tail of this one that fits
-pub search-no : (ds : List ℕ) (i m : ℕ) → T (realizable ds) → i < length ds → 0 < m → Candidate ds i m → eqb (cut m (getD ds i 0)) (getD ds m 0) ≡ false → Candidate ds i (failureLength ds m)
+pub search-no : (ds : List ℕ) (i m : ℕ) → T (realizable ds) → i < length ds → 0 < m → Candidate ds i m
+    → eqb (cut m (getD ds i 0)) (getD ds m 0) ≡ false → Candidate ds i (failureLength ds m)
 search-no ds i m r l z c a =
     let q = failureLength ds m in
     let b = c .proper in
@@ -219,7 +222,7 @@ search-one ds i e = omega (arith, failure-lt ds (suc i) (omega arith))
 pub filled : (ds out : List ℕ) (i n : ℕ) → take i out ≡ tabulate i (λ j. failureLength ds (suc j)) → 0 < n → n ≤ i → getD out (n - 1) 0 ≡ failureLength ds n
 filled ds out i n e h l =
     let s : suc (n - 1) ≡ n = omega arith in
-    sym (getD-take i out (n - 1) 0 (omega arith)) ∙ ap (λ (v : List ℕ). getD v (n - 1) 0) e ∙ getD-tabulate i (λ j. failureLength ds (suc j)) 0 (n - 1) (omega arith) ∙ ap (failureLength ds) s
+    filled-at 0 (λ j. failureLength ds (suc j)) out i (n - 1) e (omega arith) ∙ ap (failureLength ds) s
 
 -- ---- the comparison after the cut, where d was read for v and e for w
 

@@ -1,32 +1,23 @@
-// The failure lengths of the heads of a list of parent distances, in linear time and with no array besides the answer's.
-ghost use mathlib.Core.Path.{_≡_};
-ghost use mathlib.Core.Bool.{true};
-ghost use mathlib.Core.List.{_++_};
-ghost use Prim.Native.Nat.{suc, _≤_, _<_};
-ghost use lib.Dec.{eqb};
-ghost use lib.ListN.{length, getD, take, drop};
-ghost use Rattle.lists.specs.Prelude.{tabulate};
+// The failure lengths of the heads of a list of parent distances, in linear time and with no array
+// besides the answer's.
+ghost use Rattle.lists.specs.Prelude.{_≡_, true, _++_, suc, _≤_, _<_, eqb, length, getD, take, drop, tabulate};
 ghost use Rattle.cartesian.specs.Cartesian.{cut};
 ghost use Rattle.realization.specs.Realization.{realizable, failureLength, failureLengths};
 
-fn wide(x: u32) -> usize
-    ensures { λ r. ⌜ r ≡ x ⌝ }
-{
-    x as usize
-}
-
-// Is the distance at place i, in a window of the m values before it and its own, the distance at place m.
+// Is the distance at place i, in a window of the m values before it and its own, the distance at
+// place m.
 fn agrees(ds: &[u32], i: usize, m: usize) -> bool
     requires { ⌜ (i < length (now ds)) × (m < length (now ds)) ⌝ }
     ensures { λ r. ⌜ r ≡ eqb (cut m (getD (now (ds .entry)) i 0)) (getD (now (ds .entry)) m 0) ⌝ }
 {
-    let d = wide(ds[i]);
-    let e = wide(ds[m]);
+    let d = casts::wide(ds[i]);
+    let e = casts::wide(ds[m]);
     if d <= m { d == e } else { 0 == e }
 }
 
-// The failure length of the head of i + 1 distances, where `out` has those of the shorter heads: from the failure length of i distances on, down
-// the failure lengths, to the first tail that the distance at place i continues.
+// The failure length of the head of i + 1 distances, where `out` has those of the shorter heads:
+// from the failure length of i distances on, down the failure lengths, to the first tail that the
+// distance at place i continues.
 fn next_length(ds: &[u32], out: &[u32], i: usize) -> usize
     requires { ⌜ (i < length (now ds)) × (i ≤ length (now out)) ⌝ }
     requires { ⌜ realizable (now ds) ≡ true ⌝ }
@@ -36,12 +27,12 @@ fn next_length(ds: &[u32], out: &[u32], i: usize) -> usize
     if i == 0 {
         return 0;
     }
-    let mut m = wide(out[i - 1]);
+    let mut m = casts::wide(out[i - 1]);
     while m > 0 {
         if agrees(ds, i, m) {
             return m + 1;
         }
-        m = wide(out[m - 1]);
+        m = casts::wide(out[m - 1]);
     }
     1
 }

@@ -1,11 +1,6 @@
 -- The prefix child of a place is the root of its left part, and a walk along the links finds it:
 -- it is the last place of the left part that leads to no place of it.
-use mathlib.Core.Path.{_≡_, refl, _∙_, ap}
-use mathlib.Core.Logic.{_⊎_, inl, inr}
-use mathlib.Core.Option.{Option, none, some}
-use Prim.Native.Nat.{ℕ, zero, suc, _+_, _-_, _≤_, _<_}
-use native.Mathlib.Omega.{arith}
-use lib.ListN.{getD}
+use Rattle.lists.proofs.Prelude.{_≡_, _∙_, ap, refl, inl, inr, _⊎_, Option, none, some, ℕ, zero, suc, _+_, _-_, _≤_, _<_, getD, arith}
 use Rattle.lists.proofs.Places.{Place, before, here, after, place}
 use Rattle.cartesian.specs.Cartesian.{Tree, leaf, node, size}
 use Rattle.global_parents.specs.GlobalParents.{rootOf}
@@ -21,7 +16,8 @@ pub record RootOfPart (d : ℕ → ℕ) (b j c : ℕ) : Type 0 where
   pub top : (d c ≡ 0) ⊎ (c < b + d c)
   pub inner : (i : ℕ) → c < i → i < j → (0 < d i) × (b + d i ≤ i)
 
--- the part from b to before j is empty and there is no child, or the child is the part's root; a is the first place of the tree
+-- the part from b to before j is empty and there is no child, or the child is the part's root; a is
+-- the first place of the tree
 abbrev pub ChildOfPart : (ℕ → ℕ) → ℕ → ℕ → ℕ → Option ℕ → Type 0
 ChildOfPart d a b j o = ((b ≡ j) × (o ≡ none)) ⊎ ((c : ℕ) × (o ≡ some (a + c)) × RootOfPart d b j c)
 
@@ -57,10 +53,13 @@ root-of-left : (l r : Tree) (a : ℕ) → ChildOfPart (distance (node l r)) a 0 
 unfolding size
 root-of-left leaf r a = inl (refl, refl)
 root-of-left (node l m) r a =
-    same-part (distance (node l m)) (distance (node (node l m) r)) a 0 (size (node l m)) (some (a + size l)) (distance-left (node l m) r) (inr (size l, refl, root-of-node l m))
+    same-part (distance (node l m)) (distance (node (node l m) r)) a 0 (size (node l m)) (some (a + size l)) (distance-left (node l m) r)
+    (inr (size l, refl, root-of-node l m))
 
--- the left part of a place on the right of a root, with the places counted from the first of the whole tree
-after-right : (l r : Tree) (k : ℕ) → distance r k ≤ k → RightDistance l r k → afterLink (size l + suc k) (distance (node l r) (size l + suc k)) ≡ size l + suc (afterLink k (distance r k))
+-- the left part of a place on the right of a root, with the places counted from the first of the
+-- whole tree
+after-right : (l r : Tree) (k : ℕ) → distance r k ≤ k → RightDistance l r k
+    → afterLink (size l + suc k) (distance (node l r) (size l + suc k)) ≡ size l + suc (afterLink k (distance r k))
 after-right l r k h (inl p) = rw (p .0, p .1) (omega arith)
 after-right l r k h (inr p) = rw (p .1) (go (distance r k) (p .0) h)
   where
@@ -68,7 +67,8 @@ after-right l r k h (inr p) = rw (p .1) (go (distance r k) (p .0) h)
     go zero a b = omega arith
     go (suc d) a b = omega arith
 
-top-right : (l r : Tree) (b c : ℕ) → (distance r c ≡ 0) ⊎ (c < b + distance r c) → RightDistance l r c → size l + suc c < size l + suc b + distance (node l r) (size l + suc c)
+top-right : (l r : Tree) (b c : ℕ) → (distance r c ≡ 0) ⊎ (c < b + distance r c) → RightDistance l r c
+    → size l + suc c < size l + suc b + distance (node l r) (size l + suc c)
 top-right l r b c t (inl p) = omega (arith, p .1)
 top-right l r b c (inl e) (inr p) = absurd (let z : ⊥ = omega (arith, p .0) in z)
 top-right l r b c (inr e) (inr p) = omega (arith, p .1)
@@ -78,7 +78,8 @@ inner-right : (l r : Tree) (b i : ℕ) → (0 < distance r i) × (b + distance r
 inner-right l r b i n (inl p) = absurd (let z : ⊥ = omega (arith, n .0, p .0) in z)
 inner-right l r b i n (inr p) = (omega (arith, n .0, p .1), omega (arith, n .1, p .1))
 
-part-right : (l r : Tree) (a b k : ℕ) (o : Option ℕ) → k < size r → ChildOfPart (distance r) (suc (a + size l)) b k o → ChildOfPart (distance (node l r)) a (size l + suc b) (size l + suc k) o
+part-right : (l r : Tree) (a b k : ℕ) (o : Option ℕ) → k < size r → ChildOfPart (distance r) (suc (a + size l)) b k o
+    → ChildOfPart (distance (node l r)) a (size l + suc b) (size l + suc k) o
 part-right l r a b k o h (inl p) = inl (omega (arith, p .0), p .1)
 part-right l r a b k o h (inr (c, q, p)) =
     inr (
@@ -107,7 +108,8 @@ left-child (node l r) a j h = go j (place (size l) (size r) j h) (left-child l a
         → ChildOfPart (distance (node l r)) a (afterLink j (distance (node l r) j)) j (getD (leftChildren a (node l r)) j none)
     go j (before h) hl hr =
         rw (child-left a l r j h, distance-left l r j h)
-        (same-part (distance l) (distance (node l r)) a (afterLink j (distance l j)) j (getD (leftChildren a l) j none) (λ i k. distance-left l r i (omega arith)) (hl j h))
+        (same-part (distance l) (distance (node l r)) a (afterLink j (distance l j)) j (getD (leftChildren a l) j none)
+        (λ i k. distance-left l r i (omega arith)) (hl j h))
     go _ here hl hr = rw (child-root a l r, distance-root l r) (root-of-left l r a)
     go _ (after k h) hl hr =
         rw (child-right a l r k, after-right l r k (distance-le r k h) (right-distance l r k h))

@@ -1,5 +1,4 @@
 -- The root of the crate's laws.
-pub mod More
 pub mod Links
 pub mod LeftPart
 pub mod Walk

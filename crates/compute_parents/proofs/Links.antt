@@ -1,9 +1,6 @@
--- Links do not cross: where place k of a tree leads to a place before it, each place between the two leads to a place that is not before that one.
-use mathlib.Core.Path.{_≡_, refl}
-use mathlib.Core.Logic.{_⊎_, inl, inr}
-use Prim.Native.Nat.{ℕ, zero, suc, _+_, _-_, _≤_, _<_}
-use native.Mathlib.Omega.{arith}
-use lib.ListN.{getD}
+-- Links do not cross: where place k of a tree leads to a place before it, each place between the
+-- two leads to a place that is not before that one.
+use Rattle.lists.proofs.Prelude.{_≡_, refl, inl, inr, _⊎_, ℕ, zero, suc, _+_, _-_, _≤_, _<_, getD, arith}
 use Rattle.lists.proofs.Places.{Place, before, here, after, place}
 use Rattle.cartesian.specs.Cartesian.{Tree, leaf, node, size}
 use Rattle.cartesian.proofs.Structure.{orElse, treeDistances}
@@ -13,7 +10,8 @@ use Rattle.global_parents.proofs.Parts.{distance-left, distance-root, distance-
 abbrev pub distance : Tree → ℕ → ℕ
 distance t k = getD (treeDistances t) k 0
 
--- a distance on the right of a root is the distance to the root where it is 0 in the right subtree, and else the one there
+-- a distance on the right of a root is the distance to the root where it is 0 in the right subtree,
+-- and else the one there
 abbrev pub RightDistance : Tree → Tree → ℕ → Type 0
 RightDistance l r k =
     ((distance r k ≡ 0) × (distance (node l r) (size l + suc k) ≡ suc k))

@@ -1,22 +1,14 @@
--- One place more: what place j tells changes the parents that the places below j tell into those that the places up to j tell,
--- and the parents that all places tell are the global parents.
-use mathlib.Core.Path.{_≡_, refl, sym, _∙_, ap, subst}
-use mathlib.Core.Bool.{Bool, true, false, _&&_}
-use mathlib.Core.List.{List, _++_}
-use mathlib.Core.Option.{Option, none, some}
-use Prim.Native.Nat.{ℕ, zero, suc, _+_, _-_, _≤_, _<_}
-use native.Mathlib.Omega.{arith}
-use native.Mathlib.Numerals.{add-one}
-use borrow.Author.Tests.{eq-eqb, ne-eqb, lt-ltb}
-use lib.Dec.{eqb, ltb, ltb→lt}
-use lib.ListN.{length, getD, drop, set, length-append, length-drop}
-use lib.Seq.{set-append-left}
-use Rattle.lists.specs.Prelude.{tabulate, lastBelow}
-use Rattle.lists.proofs.Lists.{and-split, lastBelow-zero, length-tabulate, tabulate-ext, tabulate-more}
+-- One place more: what place j tells changes the parents that the places below j tell into those
+-- that the places up to j tell, and the parents that all places tell are the global parents.
+use Rattle.lists.proofs.Prelude.{_≡_, _∙_, ap, sym, refl, subst, true, false, _&&_, Option, none, some, List, _++_, ℕ, zero, suc, _+_, _-_, _≤_, _<_, eqb, ltb}
+use Rattle.lists.proofs.Prelude.{ltb→lt, length, getD, drop, set, length-append, length-drop, set-append-left, add-one, arith, eq-eqb, ne-eqb, lt-ltb, tabulate}
+use Rattle.lists.proofs.Prelude.{lastBelow}
+use Rattle.lists.proofs.Tests.{and-split, and-false}
+use Rattle.lists.proofs.LastBelow.{lastBelow-zero}
+use Rattle.lists.proofs.Tables.{length-tabulate, tabulate-ext, tabulate-more, tabulate-set}
 use Rattle.realization.specs.Realization.{realizable}
 use Rattle.global_parents.specs.GlobalParents.{isPrefixChild, globalParent, globalParents}
 use Rattle.compute_parents.specs.Steps.{leftStart, isRootFrom, prefixChild, storedAt, withPlace, parentBelow}
-use Rattle.compute_parents.proofs.More.{tabulate-set}
 use Rattle.compute_parents.proofs.Walk.{child-none, child-some, child-lt}
 
 -- all places tell the global parent
@@ -36,23 +28,21 @@ parents-all ds = tabulate-ext (length ds) (parentBelow ds (length ds)) (globalPa
 parentBelow-self : (ds : List ℕ) (j : ℕ) → parentBelow ds j j ≡ j - getD ds j 0
 unfolding parentBelow
 parentBelow-self ds j =
-    let e : lastBelow (λ i. ltb j i && isPrefixChild ds j i) j ≡ 0 = lastBelow-zero (λ i. ltb j i && isPrefixChild ds j i) j (λ i h t. let l = ltb→lt j i ((and-split (ltb j i) (isPrefixChild ds j i) t) .0) in omega arith) in
+    let e : lastBelow (λ i. ltb j i && isPrefixChild ds j i) j ≡ 0 =
+    lastBelow-zero (λ i. ltb j i && isPrefixChild ds j i) j
+    (λ i h t. let l = ltb→lt j i ((and-split (ltb j i) (isPrefixChild ds j i) t) .0) in omega arith) in
     rw e refl
 
--- place j tells of i, or does not
-told : (ds : List ℕ) (j i : ℕ) → i < j → isPrefixChild ds i j ≡ true → parentBelow ds (j + 1) i ≡ j
+-- i is the prefix child of j, or it is not
+is-child : (ds : List ℕ) (j i : ℕ) → i < j → isPrefixChild ds i j ≡ true → parentBelow ds (j + 1) i ≡ j
 unfolding parentBelow lastBelow
-told ds j i h e = rw (add-one j, lt-ltb i j h, e) refl
+is-child ds j i h e = rw (add-one j, lt-ltb i j h, e) refl
 
-untold : (ds : List ℕ) (j i : ℕ) → isPrefixChild ds i j ≡ false → parentBelow ds j i ≡ parentBelow ds (j + 1) i
+is-not-child : (ds : List ℕ) (j i : ℕ) → isPrefixChild ds i j ≡ false → parentBelow ds j i ≡ parentBelow ds (j + 1) i
 unfolding parentBelow lastBelow
-untold ds j i e =
-    let q : ltb i j && isPrefixChild ds i j ≡ false = rw e (go (ltb i j)) in
+is-not-child ds j i e =
+    let q : ltb i j && isPrefixChild ds i j ≡ false = rw e (and-false (ltb i j)) in
     rw (add-one j, q) refl
-  where
-    go : (b : Bool) → b && false ≡ false
-    go true = refl
-    go false = refl
 
 prefix-none : (ds : List ℕ) (j i : ℕ) → prefixChild ds j ≡ none → isPrefixChild ds i j ≡ false
 unfolding isPrefixChild
@@ -73,7 +63,8 @@ parents-none ds d = refl
 pub length-parentsBelow : (ds : List ℕ) (j : ℕ) (d : List ℕ) → j ≤ length d → length (parentsBelow ds j d) ≡ length d
 length-parentsBelow ds j d h = simp (length-append, length-tabulate, length-drop) (omega arith)
 
-pub place-more : (ds : List ℕ) (j : ℕ) (d : List ℕ) → realizable ds ≡ true → j < length ds → j < length d → withPlace ds j (parentsBelow ds j d) ≡ parentsBelow ds (j + 1) d
+pub place-more : (ds : List ℕ) (j : ℕ) (d : List ℕ) → realizable ds ≡ true → j < length ds → j < length d
+    → withPlace ds j (parentsBelow ds j d) ≡ parentsBelow ds (j + 1) d
 unfolding withPlace
 place-more ds j d r h k =
     let f = parentBelow ds j in
@@ -82,23 +73,27 @@ place-more ds j d r h k =
     go : (o : Option ℕ) → prefixChild ds j ≡ o → set (parentsBelow ds j d) j (j - getD ds j 0) ≡ tabulate (j + 1) (parentBelow ds j) ++ drop (j + 1) d
         → storedAt o j (set (parentsBelow ds j d) j (j - getD ds j 0)) ≡ parentsBelow ds (j + 1) d
     go none e m =
-        m ∙ ap (λ (l : List ℕ). l ++ drop (j + 1) d) (tabulate-ext (j + 1) (parentBelow ds j) (parentBelow ds (j + 1)) (λ i _. untold ds j i (prefix-none ds j i e)))
+        m
+        ∙ ap (λ (l : List ℕ). l ++ drop (j + 1) d)
+        (tabulate-ext (j + 1) (parentBelow ds j) (parentBelow ds (j + 1)) (λ i _. is-not-child ds j i (prefix-none ds j i e)))
     go (some c) e m =
         let l : c < j = child-lt ds j c r h e in
         ap (λ (l : List ℕ). set l c j) m
         ∙ set-append-left (tabulate (j + 1) (parentBelow ds j)) (drop (j + 1) d) c j (rw length-tabulate (omega arith))
         ∙ ap (λ (l : List ℕ). l ++ drop (j + 1) d)
         (tabulate-set (parentBelow ds j) (parentBelow ds (j + 1)) (j + 1) c j (omega arith)
-        (told ds j c l (prefix-some ds j c c e ∙ eq-eqb c c refl))
-        (λ i _ q. untold ds j i (prefix-some ds j c i e ∙ ne-eqb c i (λ s. q (sym s)))))
+        (is-child ds j c l (prefix-some ds j c c e ∙ eq-eqb c c refl))
+        (λ i _ q. is-not-child ds j i (prefix-some ds j c i e ∙ ne-eqb c i (λ s. q (sym s)))))
 
 -- ---- the ways through the stores for one place
 
-pub stored-alone : (ds : List ℕ) (j : ℕ) (out : List ℕ) (u s : ℕ) → realizable ds ≡ true → j < length ds → u ≡ j - getD ds j 0 → s ≡ leftStart ds j → j ≤ s → set out j u ≡ withPlace ds j out
+pub stored-alone : (ds : List ℕ) (j : ℕ) (out : List ℕ) (u s : ℕ) → realizable ds ≡ true → j < length ds → u ≡ j - getD ds j 0 → s ≡ leftStart ds j
+    → j ≤ s → set out j u ≡ withPlace ds j out
 unfolding withPlace
 stored-alone ds j out u s r h e f l = rw (child-none ds j r h (subst (λ (n : ℕ). j ≤ n) f l), e) refl
 
-pub stored-child : (ds : List ℕ) (j : ℕ) (out : List ℕ) (u s k : ℕ) → realizable ds ≡ true → j < length ds → u ≡ j - getD ds j 0 → s ≡ leftStart ds j → s < j → k + 1 ≡ lastBelow (isRootFrom ds s) j
+pub stored-child : (ds : List ℕ) (j : ℕ) (out : List ℕ) (u s k : ℕ) → realizable ds ≡ true → j < length ds → u ≡ j - getD ds j 0 → s ≡ leftStart ds j
+    → s < j → k + 1 ≡ lastBelow (isRootFrom ds s) j
     → set (set out j u) k j ≡ withPlace ds j out
 unfolding withPlace
 stored-child ds j out u s k r h e f l q =

@@ -1,19 +1,10 @@
--- The walk to a prefix child, for realizable distances: each link skips only places that lead into the part, so the first place that leads out of it is its root.
-use mathlib.Core.Path.{_≡_, refl, sym, _∙_, ap, subst}
-use mathlib.Core.Bool.{Bool, true, false, _||_}
-use mathlib.Core.Logic.{_⊎_, inl, inr}
-use mathlib.Core.List.{List}
-use mathlib.Core.Option.{none, some, Option·some-injective, Option·none-ne-some}
-use Prim.Native.Nat.{ℕ, zero, suc, _+_, _-_, _≤_, _<_}
-use native.Mathlib.Omega.{arith}
-use native.Mathlib.Numerals.{add-one}
-use native.Mathlib.Decide.{decLt}
-use borrow.Author.Tests.{ltb-false, eq-eqb, ne-eqb, lt-ltb, le-ltb}
-use lib.Dec.{T, eqb, ltb}
-use lib.ListN.{length, getD}
-use Rattle.lists.specs.Prelude.{lastBelow}
-use Rattle.lists.proofs.Order.{T-true}
-use Rattle.lists.proofs.Lists.{lastBelow-le, lastBelow-is, lastBelow-skip}
+-- The walk to a prefix child, for realizable distances: each link skips only places that lead into
+-- the part, so the first place that leads out of it is its root.
+use Rattle.lists.proofs.Prelude.{_≡_, _∙_, ap, sym, refl, subst, inl, inr, _⊎_, Bool, true, false, _||_, none, some, Option·some-injective, Option·none-ne-some}
+use Rattle.lists.proofs.Prelude.{List, ℕ, zero, suc, _+_, _-_, _≤_, _<_, T, eqb, ltb, length, getD, add-one, decLt, arith, eq-eqb, ne-eqb, lt-ltb, le-ltb}
+use Rattle.lists.proofs.Prelude.{ltb-false, lastBelow}
+use Rattle.lists.proofs.Tests.{T-true}
+use Rattle.lists.proofs.LastBelow.{lastBelow-le, lastBelow-is, lastBelow-skip}
 use Rattle.cartesian.specs.Cartesian.{Tree, size}
 use Rattle.cartesian.proofs.Structure.{treeDistances, length-treeDistances}
 use Rattle.realization.specs.Realization.{realizable}
@@ -82,7 +73,8 @@ walk-tree : (t : Tree) (b k : ℕ) → k < size t → isRootFrom (treeDistances 
     → lastBelow (isRootFrom (treeDistances t) b) (k + 1) ≡ lastBelow (isRootFrom (treeDistances t) b) (k - distance t k + 1)
 walk-tree t b k h e =
     let p = leads-on (treeDistances t) b k e in
-    lastBelow-skip (isRootFrom (treeDistances t) b) (k + 1) (k - distance t k + 1) (omega arith) (λ i m n u. subst T (go i (omega (arith, p .0, p .1)) n (decLt i k) p) u)
+    lastBelow-skip (isRootFrom (treeDistances t) b) (k + 1) (k - distance t k + 1) (omega arith)
+    (λ i m n u. subst T (go i (omega (arith, p .0, p .1)) n (decLt i k) p) u)
   where
     go : (i : ℕ) → k < i + distance t k → i < k + 1 → Dec (i < k) → (0 < distance t k) × (b + distance t k ≤ k) → isRootFrom (treeDistances t) b i ≡ false
     go i m n (yes l) p =
@@ -138,7 +130,8 @@ child-none ds j r h l = go (prefix-child ds j r h)
     go (inr (c, q, p)) = absurd (let z : ⊥ = omega (arith, p .first, p .last) in z)
 
 -- any other has the one that the walk finds
-pub child-some : (ds : List ℕ) (j k : ℕ) → realizable ds ≡ true → j < length ds → leftStart ds j < j → k + 1 ≡ lastBelow (isRootFrom ds (leftStart ds j)) j → prefixChild ds j ≡ some k
+pub child-some : (ds : List ℕ) (j k : ℕ) → realizable ds ≡ true → j < length ds → leftStart ds j < j
+    → k + 1 ≡ lastBelow (isRootFrom ds (leftStart ds j)) j → prefixChild ds j ≡ some k
 child-some ds j k r h l e = go (prefix-child ds j r h)
   where
     go : ChildOfPart (λ k. getD ds k 0) 0 (leftStart ds j) j (prefixChild ds j) → prefixChild ds j ≡ some k

@@ -1,17 +1,11 @@
--- THE LAW OF THE CHECK BY PARENTS: by the global parents it is the check of a window by the distances. With it, the ways through the check's code.
-use mathlib.Core.Path.{_≡_, refl, sym}
-use mathlib.Core.Bool.{true, false, _&&_}
-use mathlib.Core.List.{List}
-use Prim.Native.Nat.{ℕ, zero, suc, _≤_, _<_}
-use native.Mathlib.Omega.{arith}
-use lib.Dec.{ltb}
-use lib.IntN.{ℤ, pos}
-use lib.Signed.{leZ, ltZ, leZ-yes, ltZ-yes}
-use lib.ListN.{length, getD}
-use Rattle.lists.specs.Prelude.{lastBelow}
-use Rattle.lists.proofs.Lists.{test-ext, lastBelow-le, length-tabulate, getD-tabulate}
-use Rattle.lists.proofs.Order.{T-true, true-T}
-use Rattle.lists.proofs.Places.{all-below, below-all}
+-- THE LAW OF THE CHECK BY PARENTS: by the global parents it is the check of a window by the
+-- distances. With it, the ways through the check's code.
+use Rattle.lists.proofs.Prelude.{_≡_, sym, refl, true, false, _&&_, List, ℕ, zero, suc, _≤_, _<_, ℤ, pos, leZ, ltZ, ltZ-yes, leZ-yes, ltb, length, getD, arith}
+use Rattle.lists.proofs.Prelude.{lastBelow}
+use Rattle.lists.proofs.Tests.{test-ext, T-true, true-T}
+use Rattle.lists.proofs.LastBelow.{lastBelow-le}
+use Rattle.lists.proofs.Tables.{length-tabulate, getD-tabulate}
+use Rattle.lists.proofs.Members.{all-below, below-all}
 use Rattle.global_parents.specs.GlobalParents.{isPrefixChild, globalParent, globalParents}
 use Rattle.global_parents.specs.Passes.{passesAt, passes}
 use Rattle.global_parents.proofs.Comparison.{passes-not-above, passes-below, below-passes, not-above-passes}
@@ -48,7 +42,8 @@ unfolding passesParents passes globalParents
 passesParents-passes ds xs =
     test-ext (passesParents (globalParents ds) xs) (passes ds xs)
     (λ t. below-all (λ i. passesAt xs (globalParent ds i) i) (length ds)
-    (λ i h. rw (getD-tabulate (length ds) (globalParent ds) 0 i h) at (all-below (λ i. passesAt xs (getD (globalParents ds) i 0) i) (length ds) (rw length-tabulate at t) i h)))
+    (λ i h. let passed = all-below (λ i. passesAt xs (getD (globalParents ds) i 0) i) (length ds) (rw length-tabulate at t) i h in
+    rw (getD-tabulate (length ds) (globalParent ds) 0 i h) at passed))
     (λ t. rw length-tabulate
     (below-all (λ i. passesAt xs (getD (globalParents ds) i 0) i) (length ds)
     (λ i h. rw (getD-tabulate (length ds) (globalParent ds) 0 i h) (all-below (λ i. passesAt xs (globalParent ds i) i) (length ds) t i h))))
@@ -57,7 +52,8 @@ passesParents-passes ds xs =
 
 globalParent-lt : (ds : List ℕ) (i : ℕ) → i < length ds → globalParent ds i < length ds
 unfolding globalParent
-globalParent-lt ds i h = go (lastBelow (λ j. ltb i j && isPrefixChild ds i j) (length ds)) refl (lastBelow-le (λ j. ltb i j && isPrefixChild ds i j) (length ds))
+globalParent-lt ds i h =
+    go (lastBelow (λ j. ltb i j && isPrefixChild ds i j) (length ds)) refl (lastBelow-le (λ j. ltb i j && isPrefixChild ds i j) (length ds))
   where
     go : (q : ℕ) → lastBelow (λ j. ltb i j && isPrefixChild ds i j) (length ds) ≡ q → q ≤ length ds → globalParent ds i < length ds
     go zero e l = rw e (omega arith)

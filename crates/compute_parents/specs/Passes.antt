@@ -1,10 +1,5 @@
 -- The check of a window against a list of parents.
-use mathlib.Core.Bool.{Bool}
-use mathlib.Core.List.{List}
-use Prim.Native.Nat.{ℕ, _<_}
-use lib.IntN.{ℤ}
-use lib.ListN.{length, getD}
-use Rattle.lists.specs.Prelude.{tabulate, all}
+use Rattle.lists.specs.Prelude.{Bool, List, ℕ, _<_, ℤ, length, getD, tabulate, all}
 use Rattle.global_parents.specs.Passes.{passesAt}
 
 -- every value of a window passes the comparison with the value at its place's parent

@@ -1,11 +1,6 @@
--- What one step of the computation of global parents finds and stores, for a list of parent distances.
-use mathlib.Core.Bool.{Bool, _&&_, _||_}
-use mathlib.Core.List.{List}
-use mathlib.Core.Option.{Option, none, some}
-use Prim.Native.Nat.{ℕ, zero, suc, _+_, _-_}
-use lib.Dec.{eqb, ltb}
-use lib.ListN.{getD, set, take}
-use Rattle.lists.specs.Prelude.{lastBelow}
+-- What one step of the computation of global parents finds and stores, for a list of parent
+-- distances.
+use Rattle.lists.specs.Prelude.{Bool, _&&_, _||_, Option, none, some, List, ℕ, zero, suc, _+_, _-_, eqb, ltb, getD, take, set, lastBelow}
 use Rattle.cartesian.specs.Cartesian.{treeOf}
 use Rattle.global_parents.specs.GlobalParents.{lastLeftChild, isPrefixChild}
 
@@ -31,7 +26,8 @@ abbrev pub storedAt : Option ℕ → ℕ → List ℕ → List ℕ
 storedAt none j out = out
 storedAt (some c) j out = set out c j
 
--- the list with what place j tells: the place that j leads to as its parent, and j as the parent of its prefix child
+-- the list with what place j tells: the place that j leads to as its parent, and j as the parent of
+-- its prefix child
 unfoldable pub withPlace : List ℕ → ℕ → List ℕ → List ℕ
 withPlace ds j out = storedAt (prefixChild ds j) j (set out j (j - getD ds j 0))
 

@@ -1,28 +1,17 @@
 // Global parents in linear time, and the check of a window by them.
-ghost use mathlib.Core.Path.{_≡_};
-ghost use mathlib.Core.Bool.{true};
-ghost use mathlib.Core.List.{_++_};
-ghost use Prim.Native.Nat.{_+_, _-_, _≤_, _<_};
-ghost use lib.ListN.{length, getD, drop};
-ghost use Rattle.lists.specs.Prelude.{lastBelow};
+ghost use Rattle.lists.specs.Prelude.{_≡_, true, _++_, _+_, _-_, _≤_, _<_, length, getD, drop, lastBelow};
 ghost use Rattle.realization.specs.Realization.{realizable};
 ghost use Rattle.global_parents.specs.GlobalParents.{globalParents};
 ghost use Rattle.global_parents.specs.Passes.{passesAt};
 ghost use Rattle.compute_parents.specs.Passes.{passesParents, ParentsArePlaces};
 ghost use Rattle.compute_parents.specs.Steps.{leftStart, isRootFrom, withPlace};
 
-fn wide(x: u32) -> usize
-    ensures { λ r. ⌜ r ≡ x ⌝ }
-{
-    x as usize
-}
-
 // The place that place k leads to; k itself where its distance is 0.
 fn link(ds: &[u32], k: usize) -> usize
     requires { ⌜ (k < length (now ds)) × (getD (now ds) k 0 ≤ k) ⌝ }
     ensures { λ r. ⌜ r ≡ k - getD (now (ds .entry)) k 0 ⌝ }
 {
-    k - wide(ds[k])
+    k - casts::wide(ds[k])
 }
 
 // The first of the places before j that are after the place that j leads to; j where there is none.
@@ -30,7 +19,7 @@ fn left_start(ds: &[u32], j: usize) -> usize
     requires { ⌜ (j < length (now ds)) × (getD (now ds) j 0 ≤ j) ⌝ }
     ensures { λ r. ⌜ r ≡ leftStart (now (ds .entry)) j ⌝ }
 {
-    let d = wide(ds[j]);
+    let d = casts::wide(ds[j]);
     if d == 0 { 0 } else { j + 1 - d }
 }
 
@@ -39,11 +28,12 @@ fn is_root(ds: &[u32], start: usize, k: usize) -> bool
     requires { ⌜ (start ≤ length (now ds)) × (k < length (now ds)) ⌝ }
     ensures { λ r. ⌜ r ≡ isRootFrom (now (ds .entry)) start k ⌝ }
 {
-    let d = wide(ds[k]);
+    let d = casts::wide(ds[k]);
     if d == 0 { true } else { k < start + d }
 }
 
-// The prefix child of j, whose left part begins at start: the place that the links from j - 1 on reach last in that part.
+// The prefix child of j, whose left part begins at start: the place that the links from j - 1 on
+// reach last in that part.
 fn prefix_child(ds: &[u32], start: usize, j: usize) -> usize
     requires { ⌜ realizable (now ds) ≡ true ⌝ }
     requires { ⌜ (start < j) × (j ≤ length (now ds)) ⌝ }
@@ -59,7 +49,8 @@ fn prefix_child(ds: &[u32], start: usize, j: usize) -> usize
     }
 }
 
-// Stores what place j tells: the place that it leads to as its parent, and j as the parent of its prefix child.
+// Stores what place j tells: the place that it leads to as its parent, and j as the parent of its
+// prefix child.
 fn add_place(ds: &[u32], j: usize, out: &mut [u32])
     requires { ⌜ realizable (now ds) ≡ true ⌝ }
     requires { ⌜ (j < length (now ds)) × (length (now ds) ≤ 256) × (length (now ds) ≤ length (now out)) ⌝ }
@@ -74,8 +65,9 @@ fn add_place(ds: &[u32], j: usize, out: &mut [u32])
     }
 }
 
-// The global parents of realizable distances, written to the front of out; what is behind stays as it was.
-// Linear time: a walk to a prefix child passes only places of the left part of j, and no later walk comes to them.
+// The global parents of realizable distances, written to the front of out; what is behind stays as
+// it was. Linear time: a walk to a prefix child passes only places of the left part of j, and no
+// later walk comes to them.
 pub fn global_parents(ds: &[u32], out: &mut [u32])
     requires { ⌜ realizable (now ds) ≡ true ⌝ }
     requires { ⌜ (length (now ds) ≤ 256) × (length (now ds) ≤ length (now out)) ⌝ }
@@ -101,7 +93,8 @@ fn passes_at(window: &[i32], g: usize, i: usize) -> bool
     }
 }
 
-// Whether every value of the window passes the comparison with its parent; stops at the first that does not.
+// Whether every value of the window passes the comparison with its parent; stops at the first that
+// does not.
 pub fn passes(parents: &[u32], window: &[i32]) -> bool
     requires { ⌜ (length (now parents) ≡ length (now window)) × ParentsArePlaces (now parents) ⌝ }
     ensures { λ r. ⌜ r ≡ passesParents (now (parents .entry)) (now (window .entry)) ⌝ }
@@ -109,7 +102,7 @@ pub fn passes(parents: &[u32], window: &[i32]) -> bool
     let n = parents.len();
     let mut i = 0;
     while i < n {
-        let g = wide(parents[i]);
+        let g = casts::wide(parents[i]);
         if !passes_at(window, g, i) {
             return false;
         }

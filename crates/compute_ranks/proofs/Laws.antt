@@ -1,16 +1,8 @@
--- The ways through the two loops, in the words of the code: what of a list is in the sum and what is still to be ranked, and which distances of a code are written already.
-use mathlib.Core.Path.{_≡_, refl, sym, _∙_, ap, subst}
-use mathlib.Core.Bool.{true}
-use mathlib.Core.List.{List, [], _∷_, _++_}
-use Prim.Native.Nat.{ℕ, zero, suc, _+_, _*_, _/_, _%_, _^_, _≤_, _<_}
-use native.Mathlib.Nat.{mul-le-mul-right, mod-lt}
-use native.Mathlib.Numerals.{add-one}
-use native.Mathlib.Omega.{arith}
-use native.Mathlib.Decide.{decLt}
-use lib.Dec.{T}
-use lib.ListN.{length, getD, drop, set, drop-of-length-le}
-use lib.Seq.{drop-cons}
-use Rattle.lists.proofs.Lists.{tabulate-more}
+-- The ways through the two loops, in the words of the code: what of a list is in the sum and what
+-- is still to be ranked, and which distances of a code are written already.
+use Rattle.lists.proofs.Prelude.{_≡_, _∙_, ap, sym, refl, subst, true, List, [], _∷_, _++_, ℕ, zero, suc, _+_, _*_, _/_, _%_, _^_, _≤_, _<_, T, length, getD}
+use Rattle.lists.proofs.Prelude.{drop, set, drop-of-length-le, drop-cons, mod-lt, mul-le-mul-right, add-one, decLt, arith}
+use Rattle.lists.proofs.Tables.{tabulate-more}
 use Rattle.realization.specs.Realization.{realizable}
 use Rattle.realization.proofs.Realizable.{realizable-iff}
 use Rattle.ranking.specs.Rank.{factorial, rankFrom, rank, unrank}
@@ -41,7 +33,8 @@ rank-starts [] h = absurd (let z : ⊥ = omega arith in z)
 rank-starts (d ∷ ds) h = omega arith
 
 -- a turn takes the distance at place i times its weight to the sum
-pub rank-goes-on : (ds : List ℕ) (i sum d f : ℕ) → i < length ds → rank ds ≡ sum + rankFrom i (drop i ds) → d ≡ getD ds i 0 → f ≡ factorial i → rank ds ≡ sum + d * f + rankFrom (i + 1) (drop (i + 1) ds)
+pub rank-goes-on : (ds : List ℕ) (i sum d f : ℕ) → i < length ds → rank ds ≡ sum + rankFrom i (drop i ds) → d ≡ getD ds i 0 → f ≡ factorial i
+    → rank ds ≡ sum + d * f + rankFrom (i + 1) (drop (i + 1) ds)
 unfolding rankFrom
 rank-goes-on ds i sum d f h e p q =
     e ∙ rw (drop-cons ds i 0 h, add-one i, p, q) (omega arith)
@@ -62,6 +55,7 @@ pub digit-fits : (code i v : ℕ) → i ≤ 20 → v ≡ code / factorial i % su
 digit-fits code i v h e = omega (arith, mod-lt (code / factorial i) {m = suc i} (omega arith))
 
 -- a turn writes the distance of place i
-pub unrank-goes-on : (d out : List ℕ) (code i v : ℕ) → i < length d → out ≡ unrank i code ++ drop i d → v ≡ code / factorial i % suc i → set out i v ≡ unrank (i + 1) code ++ drop (i + 1) d
+pub unrank-goes-on : (d out : List ℕ) (code i v : ℕ) → i < length d → out ≡ unrank i code ++ drop i d → v ≡ code / factorial i % suc i
+    → set out i v ≡ unrank (i + 1) code ++ drop (i + 1) d
 unfolding unrank
 unrank-goes-on d out code i v h e q = ap (λ (l : List ℕ). set l i v) e ∙ tabulate-more (λ j. code / factorial j % suc j) 0 d i v h q

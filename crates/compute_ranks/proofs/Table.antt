@@ -1,11 +1,8 @@
--- A table of factorials: one test, which antt computes over the whole table, gives the rule at each entry.
-use mathlib.Core.Path.{_≡_, _∙_, ap}
-use mathlib.Core.List.{List}
-use Prim.Native.Nat.{ℕ, _<_}
-use lib.Dec.{T}
-use lib.ListN.{getD}
-use Rattle.lists.specs.Prelude.{tabulate, same}
-use Rattle.lists.proofs.Lists.{same-eq, getD-tabulate}
+-- A table of factorials: one test, which antt computes over the whole table, gives the rule at each
+-- entry.
+use Rattle.lists.proofs.Prelude.{_≡_, _∙_, ap, List, ℕ, _<_, T, getD, tabulate, same}
+use Rattle.lists.proofs.Same.{same-eq}
+use Rattle.lists.proofs.Tables.{getD-tabulate}
 use Rattle.ranking.specs.Rank.{factorial}
 
 pub table-at : (n : ℕ) (xs : List ℕ) → T (same xs (tabulate n factorial)) → (i : ℕ) → i < n → getD xs i 0 ≡ factorial i

@@ -1,9 +1,6 @@
-// The code of a list of parent distances in the factorial number system, and back. Document 01: Code.
-ghost use mathlib.Core.Bool.{true};
-ghost use mathlib.Core.List.{_++_};
-ghost use mathlib.Core.Path.{_≡_};
-ghost use Prim.Native.Nat.{suc, _/_, _%_, _<_, _≤_};
-ghost use lib.ListN.{length, drop};
+// The code of a list of parent distances in the factorial number system, and back. Document 01:
+// Code.
+ghost use Rattle.lists.specs.Prelude.{_≡_, true, _++_, suc, _/_, _%_, _≤_, _<_, length, drop};
 ghost use Rattle.ranking.specs.Rank.{factorial, rank, unrank};
 ghost use Rattle.realization.specs.Realization.{realizable};
 

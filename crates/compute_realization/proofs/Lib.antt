@@ -1,4 +1,4 @@
 -- The root of the crate's laws.
-pub mod OpenPlaces
+pub mod OpenDistances
 pub mod NextLower
 pub mod Values

@@ -1,52 +1,23 @@
--- The value at a place is one more than at the next lower place, and 0 where there is none: by induction on the tree. A place left of a root
--- has its next lower place there or at the root; a root has none, as all after it lead to it or to a later place; a place right of a root has
--- the one that it has in the right part, as a distance to the root leads before it.
-use mathlib.Core.Path.{_≡_, refl, sym, _∙_, ap, subst}
-use mathlib.Core.Bool.{true}
-use mathlib.Core.List.{List, [], _∷_, map}
-use Prim.Native.Nat.{ℕ, zero, suc, _+_, _-_, _≤_, _<_}
-use native.Mathlib.Omega.{arith}
-use native.Mathlib.Numerals.{add-one}
-use native.Mathlib.Decide.{decLt}
-use lib.IntN.{pos, _+ℤ_}
-use lib.ListN.{length, getD, List·getD-map, length-map, length-append}
-use lib.Seq.{getD-at}
-use Rattle.lists.proofs.Order.{T-true}
+-- The value at a place is one more than at the next lower place, and 0 where there is none: by
+-- induction on the tree. A place left of a root has its next lower place there or at the root; a
+-- root has none, as all after it lead to it or to a later place; a place right of a root has the
+-- one that it has in the right part, as a distance to the root leads before it.
+use Rattle.lists.proofs.Prelude.{_≡_, _∙_, ap, sym, refl, subst, true, List, [], _∷_, map, ℕ, zero, suc, _+_, _-_, _≤_, _<_, pos, _+ℤ_, length, getD}
+use Rattle.lists.proofs.Prelude.{length-map, List·getD-map, getD-at, add-one, decLt, arith}
+use Rattle.lists.proofs.Tests.{T-true}
 use Rattle.lists.proofs.Places.{Place, before, here, after, place, getD-before, getD-after}
+use Rattle.cartesian.proofs.Sizes.{size-treeOf}
+use Rattle.realization.proofs.LeftTurns.{length-turns}
+use Rattle.cartesian.proofs.Injective.{ok-at, treeDistances-ok}
+use Rattle.cartesian.proofs.Structure.{distance-left, distance-root, distance-right, orElse, treeDistances, length-treeDistances}
 use Rattle.cartesian.specs.Cartesian.{Tree, leaf, node, size, treeOf}
-use Rattle.cartesian.proofs.Structure.{orElse, lift, treeDistances, length-treeDistances, getD-lift}
-use Rattle.cartesian.proofs.Injective.{Ok, treeDistances-ok}
 use Rattle.realization.specs.Realization.{realizable, leftTurns, leastRealization}
 use Rattle.realization.proofs.LeastRealization.{treeDistances-treeOf}
 use Rattle.compute_realization.specs.NextLower.{Reaches, IsNext}
 
 -- ---- the distances and the left-turn counts at a place of a tree
 
-length-turns : (t : Tree) → length (leftTurns t) ≡ size t
-unfolding leftTurns size
-length-turns leaf = refl
-length-turns (node l r) = rw (length-append, length-map, length-turns l, length-turns r) refl
-
-ok-at : (k : ℕ) (ds : List ℕ) (j : ℕ) → Ok k ds → getD ds j 0 ≤ k + j
-ok-at k [] j o = omega arith
-ok-at k (d ∷ ds) zero o = omega (arith, o .0)
-ok-at k (d ∷ ds) (suc j) o = omega (arith, ok-at (suc k) ds j (o .1))
-
 module _ (l r : Tree) where
-  left-distance : (m : ℕ) → m < size l → getD (treeDistances (node l r)) m 0 ≡ getD (treeDistances l) m 0
-  unfolding treeDistances
-  left-distance m h = getD-before (treeDistances l) 0 (lift 1 (treeDistances r)) 0 (size l) m (length-treeDistances l) h
-
-  root-distance : getD (treeDistances (node l r)) (size l) 0 ≡ 0
-  unfolding treeDistances
-  root-distance = getD-at (treeDistances l) 0 (lift 1 (treeDistances r)) 0 (size l) (length-treeDistances l)
-
-  right-distance : (m : ℕ) → m < size r → getD (treeDistances (node l r)) (size l + suc m) 0 ≡ orElse (getD (treeDistances r) m 0) (1 + m)
-  unfolding treeDistances
-  right-distance m h =
-      getD-after (treeDistances l) 0 (lift 1 (treeDistances r)) 0 (size l) m (length-treeDistances l)
-      ∙ getD-lift 1 (treeDistances r) m (rw length-treeDistances h)
-
   left-turns : (m : ℕ) → m < size l → getD (leftTurns (node l r)) m 0 ≡ suc (getD (leftTurns l) m 0)
   unfolding leftTurns
   left-turns m h =
@@ -69,33 +40,33 @@ module _ (l r : Tree) where
   -- ---- the next lower place in a part of the tree
 
   left-reaches : (i m : ℕ) → m < size l → Reaches (treeDistances (node l r)) i m → Reaches (treeDistances l) i m
-  left-reaches i m h p = rw (left-distance m h) at p
+  left-reaches i m h p = rw (distance-left l r m h) at p
 
   left-reaches-back : (i m : ℕ) → m < size l → Reaches (treeDistances l) i m → Reaches (treeDistances (node l r)) i m
-  left-reaches-back i m h p = rw (left-distance m h) p
+  left-reaches-back i m h p = rw (distance-left l r m h) p
 
   root-reaches : (i : ℕ) → Reaches (treeDistances (node l r)) i (size l) → ⊥
-  root-reaches i p = omega (arith, root-distance, p .0)
+  root-reaches i p = omega (arith, distance-root l r, p .0)
 
   right-reaches : (k m : ℕ) → m < size r → Reaches (treeDistances (node l r)) (size l + suc k) (size l + suc m) → Reaches (treeDistances r) k m
-  right-reaches k m h p = go (getD (treeDistances r) m 0) (rw (right-distance m h) at p)
+  right-reaches k m h p = go (getD (treeDistances r) m 0) (rw (distance-right l r m h) at p)
     where
-      go : (d : ℕ) → (0 < orElse d (1 + m)) × (size l + suc k + orElse d (1 + m) ≤ size l + suc m) → (0 < d) × (k + d ≤ m)
+      go : (d : ℕ) → (0 < orElse d (suc m)) × (size l + suc k + orElse d (suc m) ≤ size l + suc m) → (0 < d) × (k + d ≤ m)
       go zero p = absurd (let z : ⊥ = omega (arith, p .1) in z)
       go (suc d) p = (omega arith, omega (arith, p .1))
 
   right-reaches-back : (k m : ℕ) → m < size r → Reaches (treeDistances r) k m → Reaches (treeDistances (node l r)) (size l + suc k) (size l + suc m)
-  right-reaches-back k m h p = rw (right-distance m h) (go (getD (treeDistances r) m 0) p)
+  right-reaches-back k m h p = rw (distance-right l r m h) (go (getD (treeDistances r) m 0) p)
     where
-      go : (d : ℕ) → (0 < d) × (k + d ≤ m) → (0 < orElse d (1 + m)) × (size l + suc k + orElse d (1 + m) ≤ size l + suc m)
+      go : (d : ℕ) → (0 < d) × (k + d ≤ m) → (0 < orElse d (suc m)) × (size l + suc k + orElse d (suc m) ≤ size l + suc m)
       go zero p = absurd (let z : ⊥ = omega (arith, p .0) in z)
       go (suc d) p = (omega arith, omega (arith, p .1))
 
   -- every place right of the root reaches it
   root-reached : (m : ℕ) → m < size r → Reaches (treeDistances (node l r)) (size l) (size l + suc m)
-  root-reached m h = rw (right-distance m h) (go (getD (treeDistances r) m 0) (ok-at 0 (treeDistances r) m (treeDistances-ok r)))
+  root-reached m h = rw (distance-right l r m h) (go (getD (treeDistances r) m 0) (ok-at 0 (treeDistances r) m (treeDistances-ok r)))
     where
-      go : (d : ℕ) → d ≤ 0 + m → (0 < orElse d (1 + m)) × (size l + orElse d (1 + m) ≤ size l + suc m)
+      go : (d : ℕ) → d ≤ 0 + m → (0 < orElse d (suc m)) × (size l + orElse d (suc m) ≤ size l + suc m)
       go zero p = (omega arith, omega arith)
       go (suc d) p = (omega arith, omega arith)
 
@@ -133,7 +104,8 @@ left-of l r i j h p = go (decLt (size l) j)
 abbrev pub Rises : List ℕ → ℕ → ℕ → ℕ → Type 0
 Rises xs n i j = (j < n → getD xs i 0 ≡ suc (getD xs j 0)) × (n ≤ j → getD xs i 0 ≡ 0)
 
-rises-left : (l r : Tree) (i j : ℕ) → i < size l → IsNext (treeDistances (node l r)) i j → Rises (leftTurns l) (size l) i j → Rises (leftTurns (node l r)) (size l + suc (size r)) i j
+rises-left : (l r : Tree) (i j : ℕ) → i < size l → IsNext (treeDistances (node l r)) i j → Rises (leftTurns l) (size l) i j
+    → Rises (leftTurns (node l r)) (size l + suc (size r)) i j
 rises-left l r i j a p ih =
     let b = left-of l r i j a p in
     (λ q. left-turns l r i a ∙ ap suc (go b (decLt j (size l))), λ q. absurd (let z : ⊥ = omega arith in z))
@@ -177,11 +149,12 @@ turns-next (node l r) i j h p = go (place (size l) (size r) i h) p (turns-next l
 least-rises : (ds : List ℕ) (i j : ℕ) → realizable ds ≡ true → i < length ds → IsNext ds i j → Rises (leftTurns (treeOf ds)) (length ds) i j
 least-rises ds i j e h p =
     let d : treeDistances (treeOf ds) ≡ ds = treeDistances-treeOf ds (T-true (realizable ds) e) in
-    let s : size (treeOf ds) ≡ length ds = sym (length-treeDistances (treeOf ds)) ∙ ap length d in
+    let s = size-treeOf ds in
     subst (λ (n : ℕ). Rises (leftTurns (treeOf ds)) n i j) s
     (turns-next (treeOf ds) i j (rw s h) (subst (λ (l : List ℕ). IsNext l i j) (sym d) p))
 
-pub least-more : (ds : List ℕ) (i j : ℕ) → realizable ds ≡ true → i < length ds → IsNext ds i j → j < length ds → getD (leastRealization ds) i (pos 0) ≡ getD (leastRealization ds) j (pos 0) +ℤ pos 1
+pub least-more : (ds : List ℕ) (i j : ℕ) → realizable ds ≡ true → i < length ds → IsNext ds i j → j < length ds
+    → getD (leastRealization ds) i (pos 0) ≡ getD (leastRealization ds) j (pos 0) +ℤ pos 1
 unfolding leastRealization
 least-more ds i j e h p q =
     let t = leftTurns (treeOf ds) in

@@ -1,3 +1,3 @@
 -- The root of the crate's definitions.
-pub mod OpenPlaces
+pub mod OpenDistances
 pub mod NextLower

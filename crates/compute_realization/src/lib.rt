@@ -1,31 +1,19 @@
-// Which lists of parent distances some values have, and the least values that have one, in linear time.
-ghost use mathlib.Core.Path.{_≡_};
-ghost use mathlib.Core.Bool.{true};
-ghost use mathlib.Core.List.{_++_};
-ghost use Prim.Native.Nat.{ℕ, _-_, _≤_, _<_};
-ghost use lib.Dec.{eqb};
-ghost use lib.IntN.{pos, _+ℤ_};
-ghost use lib.Signed.{_≤ℤ_};
-ghost use lib.ListN.{length, getD, drop};
-ghost use Rattle.lists.specs.Prelude.{any};
+// Which lists of parent distances some values have, and the least values that have one, in linear
+// time.
+ghost use lib.IntN.{_+ℤ_};
+ghost use Rattle.lists.specs.Prelude.{_≡_, true, _++_, ℕ, _-_, _≤_, _<_, eqb, pos, _≤ℤ_, length, getD, drop, any};
 ghost use Rattle.realization.specs.Realization.{leads, realizable, leastRealization};
-ghost use Rattle.compute_realization.specs.OpenPlaces.{openPlaces, Led};
+ghost use Rattle.compute_realization.specs.OpenDistances.{openDistances, Led};
 ghost use Rattle.compute_realization.specs.NextLower.{IsNext};
-
-fn wide(x: u32) -> usize
-    ensures { λ r. ⌜ r ≡ x ⌝ }
-{
-    x as usize
-}
 
 // Whether the place target is open at i: whether the way of links from i - 1 down comes by it.
 fn is_open(ds: &[u32], i: usize, target: usize) -> bool
     requires { ⌜ (target < i) × (i ≤ length (now ds)) × Led (now ds) i ⌝ }
-    ensures { λ r. ⌜ r ≡ any (eqb (i - target)) (openPlaces (now (ds .entry)) i) ⌝ }
+    ensures { λ r. ⌜ r ≡ any (eqb (i - target)) (openDistances (now (ds .entry)) i) ⌝ }
 {
     let mut j = i - 1;
     while j > target {
-        let d = wide(ds[j]);
+        let d = casts::wide(ds[j]);
         if d == 0 {
             return false;
         }
@@ -37,9 +25,9 @@ fn is_open(ds: &[u32], i: usize, target: usize) -> bool
 // Whether the distance at i leads to an open place, or is 0.
 fn leads_back(ds: &[u32], i: usize) -> bool
     requires { ⌜ (i < length (now ds)) × Led (now ds) i ⌝ }
-    ensures { λ r. ⌜ r ≡ leads (getD (now (ds .entry)) i 0) (openPlaces (now (ds .entry)) i) ⌝ }
+    ensures { λ r. ⌜ r ≡ leads (getD (now (ds .entry)) i 0) (openDistances (now (ds .entry)) i) ⌝ }
 {
-    let d = wide(ds[i]);
+    let d = casts::wide(ds[i]);
     if d == 0 {
         return true;
     }
@@ -64,8 +52,8 @@ pub fn is_realizable(ds: &[u32]) -> bool
     true
 }
 
-// The first place after i whose distance is 0 or leads before i, which is where the next lower value is; the length where there is none.
-// next holds the same of every place after i.
+// The first place after i whose distance is 0 or leads before i, which is where the next lower
+// value is; the length where there is none. next holds the same of every place after i.
 fn next_lower(ds: &[u32], next: &[u32; 256], i: usize) -> usize
     requires { ⌜ (i < length (now ds)) × (length (now ds) ≤ 256) ⌝ }
     requires { ⌜ ((k : ℕ) → i < k → k < length (now ds) → IsNext (now ds) k (getD (now next) k 0)) ⌝ }
@@ -74,14 +62,14 @@ fn next_lower(ds: &[u32], next: &[u32; 256], i: usize) -> usize
     let n = ds.len();
     let mut j = i + 1;
     while j < n {
-        let d = wide(ds[j]);
+        let d = casts::wide(ds[j]);
         if d == 0 {
             return j;
         }
         if d > j - i {
             return j;
         }
-        j = wide(next[j]);
+        j = casts::wide(next[j]);
     }
     j
 }

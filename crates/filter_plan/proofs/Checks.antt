@@ -1,14 +1,11 @@
--- THE TWO LOOKS AND THE CHECK: a pattern with a hit at the end of a text is likely there and a candidate there, as values with equal trees have equal keys; and the comparisons with the global parents decide whether a window has the pattern's tree.
-use mathlib.Core.Path.{_≡_, refl, sym, _∙_, ap, subst}
-use mathlib.Core.Logic.{_⊎_, inl, inr}
-use mathlib.Core.List.{List, [], _∷_, List·Memᴰ, List·Memᴰ·head, List·Memᴰ·tail, List·Memᴰ·not-nil, List·Memᴰ·cases-cons}
-use Prim.Native.Nat.{ℕ, min, _-_, _^_, _%_, _≤_}
-use native.Mathlib.Nat.{le-refl, le-trans, le-min, min-le-left, min-le-right}
-use lib.Dec.{T, eqb, leb, eqb→eq, eqb-refl, leb→le}
-use lib.IntN.{ℤ}
-use lib.ListN.{length}
-use Rattle.lists.specs.Prelude.{lastOf}
-use Rattle.lists.proofs.Lists.{and-split, and-join, test-ext, lastOf-lastOf}
+-- THE TWO LOOKS AND THE CHECK: a pattern with a hit at the end of a text is likely there and a
+-- candidate there, as values with equal trees have equal fingerprints; and the comparisons with the
+-- global parents decide whether a window has the pattern's tree.
+use Rattle.lists.proofs.Prelude.{_≡_, _∙_, ap, sym, refl, subst, inl, inr, _⊎_, List, [], _∷_, List·Memᴰ, List·Memᴰ·head, List·Memᴰ·tail, List·Memᴰ·not-nil}
+use Rattle.lists.proofs.Prelude.{List·Memᴰ·cases-cons, ℕ, min, _-_, _%_, _^_, _≤_, ℤ, T, eqb, leb, eqb→eq, eqb-refl, length, le-refl, le-trans, min-le-left}
+use Rattle.lists.proofs.Prelude.{le-min, min-le-right, lastOf}
+use Rattle.lists.proofs.Tests.{and-split, and-join, test-ext}
+use Rattle.lists.proofs.Parts.{lastOf-lastOf}
 use Rattle.cartesian.specs.Cartesian.{tree, sameTree, treeOf}
 use Rattle.cartesian.proofs.Matching.{sameTree-eq, eq-sameTree}
 use Rattle.realization.specs.Realization.{realizable, leastRealization}
@@ -18,11 +15,10 @@ use Rattle.global_parents.proofs.Passes.{passes-iff}
 use Rattle.fingerprint.specs.Fingerprint.{fingerprint}
 use Rattle.fingerprint.proofs.Fingerprint.{equal-trees-equal-fingerprints}
 use Rattle.pattern_set.specs.PatternSet.{PatternSet, goodSet}
-use Rattle.matching.specs.Matching.{hasTree}
-use Rattle.model.specs.Entries.{shortest, isCandidate}
-use Rattle.filter_plan.specs.Plan.{textKey, patternKey, ownLength, isLikely, isHit}
-use Rattle.filter_plan.proofs.Keys.{textKey-part, patternKey-part}
+use Rattle.matching.specs.Matching.{hasTree, shortest, isCandidate}
 use Rattle.pattern_set.proofs.Good.{good-pattern}
+use Rattle.filter_plan.specs.Plan.{textFingerprint, patternFingerprint, ownLength, isLikely, isHit}
+use Rattle.filter_plan.proofs.Fingerprints.{textFingerprint-part, patternFingerprint-part}
 
 -- ---- the length of the shortest pattern
 
@@ -49,25 +45,21 @@ shortest-least b bound (p ∷ ps) h f =
 pub shortest-positive : (bound : ℕ) (ps : PatternSet) → T (goodSet ps) → 1 ≤ bound → 1 ≤ shortest bound ps
 shortest-positive bound ps g h = shortest-least 1 bound ps h (λ p m. good-pattern ps p g m .0)
 
--- the set's key is of no more values than the pattern's own
+-- the set fingerprint is of no more values than the pattern's own
 pub shortest-own : (ps : PatternSet) (p : List ℕ) → List·Memᴰ p ps → shortest 17 ps ≤ ownLength p
 shortest-own ps p m = le-min (shortest-bound 17 ps) (shortest-le 17 ps p m)
 
 -- ---- hits
 
--- what a hit is: the pattern is no longer than the text, and the window has its tree
-pub hit-fits : (text : List ℤ) (p : List ℕ) → T (isHit text p) → length p ≤ length text
-unfolding isHit
-hit-fits text p t = leb→le (length p) (length text) (and-split (leb (length p) (length text)) (hasTree (lastOf (length p) text) p) t .0)
-
 pub hit-tree : (text : List ℤ) (p : List ℕ) → T (isHit text p) → T (hasTree (lastOf (length p) text) p)
 unfolding isHit
 hit-tree text p t = and-split (leb (length p) (length text)) (hasTree (lastOf (length p) text) p) t .1
 
--- the keys of a hit are equal
-pub hit-key : (b : ℕ) (text : List ℤ) (p : List ℕ) → b ≤ length p → T (realizable p) → T (isHit text p) → textKey b text ≡ patternKey b p
+-- the fingerprints of a hit are equal
+pub hit-fingerprint : (b : ℕ) (text : List ℤ) (p : List ℕ) → b ≤ length p → T (realizable p) → T (isHit text p)
+    → textFingerprint b text ≡ patternFingerprint b p
 unfolding hasTree
-hit-key b text p h r t =
+hit-fingerprint b text p h r t =
     let w = lastOf (length p) text in
     let e : tree w ≡ tree (leastRealization p) = sameTree-eq (tree w) (treeOf p) (hit-tree text p t) ∙ sym (least-tree p r) in
     ap fingerprint (sym (lastOf-lastOf b (length p) text h)) ∙ equal-trees-equal-fingerprints b w (leastRealization p) e
@@ -76,28 +68,33 @@ pub hit-likely : (text : List ℤ) (p : List ℕ) → T (realizable p) → T (is
 unfolding isLikely isHit
 hit-likely text p r t =
     let l = and-split (leb (length p) (length text)) (hasTree (lastOf (length p) text) p) t .0 in
-    and-join (leb (length p) (length text)) (eqb (textKey (ownLength p) text) (patternKey (ownLength p) p)) l
-    (subst (λ (k : ℕ). T (eqb (textKey (ownLength p) text) k)) (hit-key (ownLength p) text p (min-le-right 17 (length p)) r t) (eqb-refl (textKey (ownLength p) text)))
+    and-join (leb (length p) (length text)) (eqb (textFingerprint (ownLength p) text) (patternFingerprint (ownLength p) p)) l
+    (subst (λ (k : ℕ). T (eqb (textFingerprint (ownLength p) text) k)) (hit-fingerprint (ownLength p) text p (min-le-right 17 (length p)) r t)
+    (eqb-refl (textFingerprint (ownLength p) text)))
 
 pub hit-candidate : (b : ℕ) (text : List ℤ) (p : List ℕ) → b ≤ length p → T (realizable p) → T (isHit text p) → T (isCandidate b text p)
 unfolding isCandidate isHit
 hit-candidate b text p h r t =
     let l = and-split (leb (length p) (length text)) (hasTree (lastOf (length p) text) p) t .0 in
-    and-join (leb (length p) (length text)) (eqb (textKey b text) (patternKey b p)) l
-    (subst (λ (k : ℕ). T (eqb (textKey b text) k)) (hit-key b text p h r t) (eqb-refl (textKey b text)))
+    and-join (leb (length p) (length text)) (eqb (textFingerprint b text) (patternFingerprint b p)) l
+    (subst (λ (k : ℕ). T (eqb (textFingerprint b text) k)) (hit-fingerprint b text p h r t) (eqb-refl (textFingerprint b text)))
 
--- what is likely is a candidate: a longer key that is equal has equal lowest bits
+-- what is likely is a candidate: a longer fingerprint that is equal has equal lowest bits
 pub likely-candidate : (b : ℕ) (text : List ℤ) (p : List ℕ) → 1 ≤ b → b ≤ ownLength p → T (isLikely text p) → T (isCandidate b text p)
 unfolding isCandidate isLikely
 likely-candidate b text p h k t =
-    let l = and-split (leb (length p) (length text)) (eqb (textKey (ownLength p) text) (patternKey (ownLength p) p)) t in
-    let e : textKey b text ≡ patternKey b p = textKey-part b (ownLength p) text h k ∙ ap (λ (z : ℕ). z % 2 ^ (b - 1)) (eqb→eq (textKey (ownLength p) text) (patternKey (ownLength p) p) (l .1)) ∙ sym (patternKey-part b (ownLength p) p h k) in
-    and-join (leb (length p) (length text)) (eqb (textKey b text) (patternKey b p)) (l .0)
-    (subst (λ (z : ℕ). T (eqb (textKey b text) z)) e (eqb-refl (textKey b text)))
+    let l = and-split (leb (length p) (length text)) (eqb (textFingerprint (ownLength p) text) (patternFingerprint (ownLength p) p)) t in
+    let e : textFingerprint b text ≡ patternFingerprint b p =
+    textFingerprint-part b (ownLength p) text h k
+    ∙ ap (λ (z : ℕ). z % 2 ^ (b - 1)) (eqb→eq (textFingerprint (ownLength p) text) (patternFingerprint (ownLength p) p) (l .1))
+    ∙ sym (patternFingerprint-part b (ownLength p) p h k) in
+    and-join (leb (length p) (length text)) (eqb (textFingerprint b text) (patternFingerprint b p)) (l .0)
+    (subst (λ (z : ℕ). T (eqb (textFingerprint b text) z)) e (eqb-refl (textFingerprint b text)))
 
 -- ---- the check
 
--- the comparisons with the global parents decide whether a window that is as long as the pattern has its tree
+-- the comparisons with the global parents decide whether a window that is as long as the pattern
+-- has its tree
 pub passes-hit : (p : List ℕ) (window : List ℤ) → T (realizable p) → length window ≡ length p → passes p window ≡ hasTree window p
 unfolding hasTree
 passes-hit p window r e =

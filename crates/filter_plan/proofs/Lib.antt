@@ -1,6 +1,5 @@
 -- The root of the crate's laws.
-pub mod More
 pub mod HitOrder
-pub mod Keys
+pub mod Fingerprints
 pub mod Checks
 pub mod Candidates

@@ -1,5 +1,2 @@
 -- The root of the crate's laws.
-pub mod Places
-pub mod Lists
-pub mod MarkedBlocks
 pub mod Answers

@@ -1,48 +1,13 @@
--- What the two passes of a filter search leave behind, and its answer.
-use Rattle.lists.specs.Prelude.{_≡_, Bool, List, [], _∷_, map, flatten, ℕ, suc, _+_, _-_, _*_, _/_, _%_, _<_, ltb, T, ℤ, length, getD, take, tabulate, select}
-use Rattle.bit_sets.specs.BitSets.{bitAt}
+-- The answer of a filter search over a good set and a text that is not too long.
+use Rattle.lists.specs.Prelude.{List, [], _∷_, ℕ, _*_, ltb, ℤ, length}
 use Rattle.pattern_set.specs.PatternSet.{PatternSet}
-use Rattle.matching.specs.Matching.{hitsAt, hits, hitWords}
-use Rattle.model.specs.Entries.{shortest, isCandidate, candidates}
-use Rattle.model.specs.Refusals.{Entry}
-use Rattle.filter_plan.specs.Plan.{isHit}
-use Rattle.filter_tables.specs.Tables.{ranked}
-
--- ---- marks: a bit for each block of 64 places
-
-abbrev pub isMarked : List ℕ → ℕ → Bool
-isMarked marks block = bitAt (getD marks (block / 64) 0) (block % 64)
-
--- the block of each of the first n places at which a pattern has a hit is marked
-abbrev pub HitsMarked : PatternSet → List ℤ → List ℕ → ℕ → Type 0
-HitsMarked ps text marks n = (p : ℕ) → p < n → (r : ℕ) → r < length ps → T (isHit (take (suc p) text) (ranked ps r)) → T (isMarked marks (p / 64))
-
--- the marks after a look at place p that found a set: no mark is lost, and the block of p is marked if the set is not empty
-pub record MarkedIf (before after : List ℕ) (p found : ℕ) : Type 0 where
-  pub size : length after ≡ length before
-  pub kept : (block : ℕ) → T (isMarked before block) → T (isMarked after block)
-  pub marked : (r : ℕ) → r < 64 → T (bitAt found r) → T (isMarked after (p / 64))
-
--- ---- counts and lists
-
--- the candidates with last place below n
-abbrev pub candidatesBelow : PatternSet → List ℤ → ℕ → ℕ
-candidatesBelow ps text n = length (flatten (tabulate n (λ p. select (isCandidate (shortest 17 ps) (take (suc p) text)) ps)))
-
--- the hits with one of the n last places from a on
-unfoldable pub hitsFrom : PatternSet → List ℤ → ℕ → ℕ → List (ℕ × ℕ)
-hitsFrom ps text a n = flatten (tabulate n (λ i. hitsAt ps text (a + i)))
-
--- the hits with last place a or later
-abbrev pub restHits : PatternSet → List ℤ → ℕ → List (ℕ × ℕ)
-restHits ps text a = hitsFrom ps text a (length text - a)
-
--- the words that a set of ranks at place p puts into the list
-unfoldable pub rankWords : List ℕ → ℕ → List ℕ → List ℕ
-rankWords numbers p ranks = hitWords (map (λ r. (p, getD numbers r 0)) ranks)
-
--- ---- the answer of a search over a good set and a text that is not too long
+use Rattle.matching.specs.Matching.{hits, hitWords, candidates}
+use Rattle.entries.specs.Entries.{Entry}
 
 -- 11 where the list does not fit
 abbrev pub foundEntry : PatternSet → List ℤ → List ℕ → Entry (ℕ × ℕ) ℕ
-foundEntry ps text out = record { conditions = (11, ltb (length out) (2 * length (hits ps text))) ∷ []; counts = (length (hits ps text), candidates ps text); result = hitWords (hits ps text) }
+foundEntry ps text out = record {
+  conditions = (11, ltb (length out) (2 * length (hits ps text))) ∷ [];
+  counts = (length (hits ps text), candidates ps text);
+  result = hitWords (hits ps text);
+}

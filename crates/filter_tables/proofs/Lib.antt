@@ -1,6 +1,6 @@
 -- The root of the crate's laws.
 pub mod Ranks
-pub mod Keys
+pub mod Fingerprints
 pub mod Sets
 pub mod Parents
 pub mod Lookup

@@ -1,45 +1,25 @@
--- WHAT THE TABLES TELL at the end of a text: the sets at the bytes of a key have in common the patterns that have the whole key, so with the set at the last place they have the candidates there, and the own tables the likely patterns.
-use mathlib.Core.Path.{_≡_, refl, sym, _∙_, ap, ap₂}
-use mathlib.Core.Bool.{Bool, true, false, _&&_}
-use mathlib.Core.List.{List, [], _∷_, map, append-nil, List·Memᴰ}
-use Prim.Native.Nat.{ℕ, zero, suc, min, _+_, _-_, _/_, _%_, _^_, _≤_, _<_}
-use native.Mathlib.Omega.{arith}
-use native.Mathlib.Nat.{le-min, min-le-left, mod-lt, mod-eq-of-lt, lt-of-lt-of-le}
-use native.Mathlib.Decide.{decLt}
-use borrow.Author.Tests.{lt-ltb, le-ltb, le-leb, lt-leb, eq-eqb}
-use lib.Bits.{bitAnd}
-use lib.Dec.{T, eqb, leb, ltb, eqb→eq, ltb→lt}
-use lib.IntN.{ℤ}
-use lib.ListN.{length, getD}
-use lib.Pow.{pow-mono, field}
-use Rattle.lists.specs.Prelude.{tabulate, select}
-use Rattle.lists.proofs.Lists.{and-split, and-join, test-ext, tabulate-getD}
-use Rattle.lists.proofs.Order.{T-true}
+-- WHAT THE TABLES TELL at the end of a text: the sets at the bytes of a fingerprint have in common
+-- the patterns that have the whole fingerprint, so with the set at the last place they have the
+-- candidates there, and the own tables the likely patterns.
+use Rattle.lists.proofs.Prelude.{_≡_, _∙_, ap, sym, refl, ap₂, Bool, true, false, _&&_, List, [], _∷_, map, append-nil, List·Memᴰ, ℕ, zero, suc, min, _+_, _-_}
+use Rattle.lists.proofs.Prelude.{_/_, _%_, _^_, _≤_, _<_, ℤ, T, eqb, leb, ltb, eqb→eq, ltb→lt, length, getD, pow-mono, field, mod-lt, mod-eq-of-lt, min-le-left}
+use Rattle.lists.proofs.Prelude.{lt-of-lt-of-le, le-min, decLt, arith, eq-eqb, le-leb, lt-leb, lt-ltb, le-ltb, tabulate, select}
+use Rattle.lists.proofs.Tests.{and-split, and-join, test-ext, T-true, and-comm, eqb-comm}
+use Rattle.lists.proofs.Tables.{tabulate-getD, map-tabulate}
+use Rattle.lists.proofs.Members.{getD-mem}
+use Rattle.lists.proofs.Select.{select-map, select-append}
+use Rattle.lists.proofs.SelectTable.{select-below-ext}
+use Rattle.lists.proofs.Powers.{mod-pow-pow}
 use Rattle.bit_sets.specs.BitSets.{bitAt, bits}
-use Rattle.bit_sets.proofs.Digits.{bitAt-and}
 use Rattle.bit_sets.proofs.Laws.{bits-by}
-use Rattle.lists.proofs.Select.{getD-mem, map-tabulate, select-map, select-below-ext, select-append}
 use Rattle.pattern_set.specs.PatternSet.{PatternSet, goodSet}
-use Rattle.model.specs.Entries.{shortest, isCandidate}
-use Rattle.filter_plan.specs.Plan.{hitOrder, textKey, patternKey, ownLength, isLikely}
-use Rattle.filter_plan.proofs.More.{mod-pow-pow}
-use Rattle.filter_plan.proofs.Keys.{textKey-lt, textKey-part}
+use Rattle.matching.specs.Matching.{shortest, isCandidate}
+use Rattle.filter_plan.specs.Plan.{hitOrder, textFingerprint, patternFingerprint, ownLength, isLikely}
+use Rattle.filter_plan.proofs.Fingerprints.{textFingerprint-lt, textFingerprint-part}
 use Rattle.filter_plan.proofs.HitOrder.{hitOrder-lt, length-hitOrder}
-use Rattle.filter_plan.proofs.Checks.{shortest-bound, shortest-positive, shortest-own, likely-candidate}
-use Rattle.filter_tables.specs.Tables.{ranked, Holds, keyLow, keyHigh, ownLow, ownHigh, fitsAt}
+use Rattle.filter_plan.proofs.Checks.{shortest-bound, shortest-positive}
 use Rattle.pattern_set.proofs.Good.{good-pattern}
-
--- ---- tests
-
-and-comm : (a b : Bool) → (a && b) ≡ (b && a)
-and-comm true true = refl
-and-comm true false = refl
-and-comm false true = refl
-and-comm false false = refl
-
-and-assoc : (a b c : Bool) → ((a && b) && c) ≡ (a && (b && c))
-and-assoc true b c = refl
-and-assoc false b c = refl
+use Rattle.filter_tables.specs.Tables.{ranked, TableOf, setLow, setHigh, ownLow, ownHigh, fitsAt}
 
 -- ---- two bytes
 
@@ -52,7 +32,8 @@ bytes-eq a b =
     let h = eqb→eq (b / 256) (a / 256) (s .1) in
     T-true (eqb a b) (eq-eqb a b (omega arith)))
     (λ t. let e = eqb→eq a b t in
-    and-join (eqb (b % 256) (a % 256)) (eqb (b / 256) (a / 256)) (T-true (eqb (b % 256) (a % 256)) (eq-eqb (b % 256) (a % 256) (omega arith))) (T-true (eqb (b / 256) (a / 256)) (eq-eqb (b / 256) (a / 256) (omega arith))))
+    and-join (eqb (b % 256) (a % 256)) (eqb (b / 256) (a / 256)) (T-true (eqb (b % 256) (a % 256)) (eq-eqb (b % 256) (a % 256) (omega arith)))
+    (T-true (eqb (b / 256) (a / 256)) (eq-eqb (b / 256) (a / 256) (omega arith))))
 
 -- the bytes of the lowest n bits
 lower-byte : (k n : ℕ) → k % 256 % 2 ^ min 8 n ≡ k % 2 ^ n % 256
@@ -83,24 +64,24 @@ high-byte k n = go (decLt n 8)
 
 -- ---- one pattern
 
--- the set's key
-pub key-tests : (b key : ℕ) (p : List ℕ) → (keyLow b (key % 256) p && keyHigh b (key / 256) p) ≡ eqb key (patternKey b p)
-key-tests b key p = bytes-eq key (patternKey b p)
+-- the set fingerprint
+pub set-tests : (b fingerprint : ℕ) (p : List ℕ)
+    → (setLow b (fingerprint % 256) p && setHigh b (fingerprint / 256) p) ≡ eqb fingerprint (patternFingerprint b p)
+set-tests b fingerprint p = bytes-eq fingerprint (patternFingerprint b p)
 
--- the pattern's own key, against the text's key of 17 values
-pub own-tests : (text : List ℤ) (p : List ℕ) → 1 ≤ length p → (ownLow (textKey 17 text % 256) p && ownHigh (textKey 17 text / 256) p) ≡ eqb (textKey (ownLength p) text) (patternKey (ownLength p) p)
+-- the pattern's own fingerprint, against the text's fingerprint of 17 values
+pub own-tests : (text : List ℤ) (p : List ℕ) → 1 ≤ length p
+    → (ownLow (textFingerprint 17 text % 256) p && ownHigh (textFingerprint 17 text / 256) p) ≡ eqb (textFingerprint (ownLength p) text)
+    (patternFingerprint (ownLength p) p)
 own-tests text p h =
-    let K = textKey 17 text in
+    let K = textFingerprint 17 text in
     let n = ownLength p - 1 in
-    let t = textKey (ownLength p) text in
-    let q = patternKey (ownLength p) p in
-    let e : t ≡ K % 2 ^ n = textKey-part (ownLength p) 17 text (le-min (omega arith) h) (min-le-left 17 (length p)) in
+    let t = textFingerprint (ownLength p) text in
+    let q = patternFingerprint (ownLength p) p in
+    let e : t ≡ K % 2 ^ n = textFingerprint-part (ownLength p) 17 text (le-min (omega arith) h) (min-le-left 17 (length p)) in
     ap₂ (λ (x y : ℕ). eqb x (q % 256) && eqb y (q / 256)) (lower-byte K n ∙ ap (λ (x : ℕ). x % 256) (sym e)) (high-byte K n ∙ ap (λ (x : ℕ). x / 256) (sym e))
     ∙ bytes-eq q t
     ∙ eqb-comm q t
-  where
-    eqb-comm : (a b : ℕ) → eqb a b ≡ eqb b a
-    eqb-comm a b = test-ext (eqb a b) (eqb b a) (λ t. T-true (eqb b a) (eq-eqb b a (sym (eqb→eq a b t)))) (λ t. T-true (eqb a b) (eq-eqb a b (sym (eqb→eq b a t))))
 
 -- the last place of a text of n values, or 255 where that is smaller
 abbrev pub lastPlace : ℕ → ℕ
@@ -130,70 +111,53 @@ module _ (ps : PatternSet) (text : List ℤ) (good : T (goodSet ps)) (some : 1 �
   place-lt : lastPlace (length text) < 256
   place-lt = omega arith
 
-  key-lt : (m : ℕ) → 1 ≤ m → m ≤ 17 → textKey m text < 65536
-  key-lt m h k = lt-of-lt-of-le (textKey-lt m text h) (pow-mono {i = m - 1} {j = 16} (omega arith))
+  fingerprint-lt : (m : ℕ) → 1 ≤ m → m ≤ 17 → textFingerprint m text < 65536
+  fingerprint-lt m h k = lt-of-lt-of-le (textFingerprint-lt m text h) (pow-mono {i = m - 1} {j = 16} (omega arith))
 
-  -- the key of 17 values has two bytes
-  pub own-key-bytes : (textKey 17 text % 256 < 256) × (textKey 17 text / 256 < 256)
-  own-key-bytes = let h = key-lt 17 (omega arith) (omega arith) in (omega arith, omega arith)
+  -- the fingerprint of 17 values has two bytes
+  pub own-fingerprint-bytes : (textFingerprint 17 text % 256 < 256) × (textFingerprint 17 text / 256 < 256)
+  own-fingerprint-bytes = let h = fingerprint-lt 17 (omega arith) (omega arith) in (omega arith, omega arith)
 
   module _ (b : ℕ) (b≡ : b ≡ shortest 17 ps) where
-    -- the set's key has two bytes
-    pub set-key-bytes : (textKey b text % 256 < 256) × (textKey b text / 256 < 256)
-    set-key-bytes =
-        let h : textKey b text < 65536 = key-lt b (omega (arith, shortest-positive 17 ps good (omega arith))) (omega (arith, shortest-bound 17 ps)) in
+    -- the set fingerprint has two bytes
+    pub set-fingerprint-bytes : (textFingerprint b text % 256 < 256) × (textFingerprint b text / 256 < 256)
+    set-fingerprint-bytes =
+        let h : textFingerprint b text < 65536 =
+        fingerprint-lt b (omega (arith, shortest-positive 17 ps good (omega arith))) (omega (arith, shortest-bound 17 ps)) in
         (omega arith, omega arith)
 
-    -- CANDIDATES: what the sets at the bytes of the set's key and at the last place have in common
-    pub candidate-bit : (lower high fits : List ℕ) → Holds ps (keyLow b) lower → Holds ps (keyHigh b) high → Holds ps fitsAt fits → (r : ℕ) → r < 64
-        → ((bitAt (getD lower (textKey b text % 256) 0) r && bitAt (getD high (textKey b text / 256) 0) r) && bitAt (getD fits (lastPlace (length text)) 0) r) ≡ (ltb r (length ps) && isCandidate b text (ranked ps r))
+    -- CANDIDATES: what the sets at the bytes of the set fingerprint and at the last place have in
+    -- common
+    pub candidate-bit : (low high fits : List ℕ) → TableOf ps (setLow b) low → TableOf ps (setHigh b) high → TableOf ps fitsAt fits → (r : ℕ) → r < 64
+        → ((bitAt (getD low (textFingerprint b text % 256) 0) r && bitAt (getD high (textFingerprint b text / 256) 0) r) && bitAt
+        (getD fits (lastPlace (length text)) 0) r) ≡ (ltb r (length ps) && isCandidate b text (ranked ps r))
     unfolding isCandidate
-    candidate-bit lower high fits l h f r k =
-        let key = textKey b text in
+    candidate-bit low high fits l h f r k =
+        let fingerprint = textFingerprint b text in
         let p = ranked ps r in
-        ap₂ _&&_ (ap₂ _&&_ (l (key % 256) (set-key-bytes .0) r k) (h (key / 256) (set-key-bytes .1) r k)) (f (lastPlace (length text)) place-lt r k)
-        ∙ common-bit (ltb r (length ps)) (keyLow b (key % 256) p) (keyHigh b (key / 256) p) (fitsAt (lastPlace (length text)) p) (isCandidate b text p)
-        (λ t. ap₂ _&&_ (key-tests b key p) (fits-test (length text) p some (good-pattern ps p good (ranked-mem r t) .1))
-        ∙ and-comm (eqb key (patternKey b p)) (leb (length p) (length text)))
+        ap₂ _&&_ (ap₂ _&&_ (l (fingerprint % 256) (set-fingerprint-bytes .0) r k) (h (fingerprint / 256) (set-fingerprint-bytes .1) r k))
+        (f (lastPlace (length text)) place-lt r k)
+        ∙ common-bit (ltb r (length ps)) (setLow b (fingerprint % 256) p) (setHigh b (fingerprint / 256) p) (fitsAt (lastPlace (length text)) p)
+        (isCandidate b text p)
+        (λ t. ap₂ _&&_ (set-tests b fingerprint p) (fits-test (length text) p some (good-pattern ps p good (ranked-mem r t) .1))
+        ∙ and-comm (eqb fingerprint (patternFingerprint b p)) (leb (length p) (length text)))
 
-    pub candidate-word : (lower high fits : List ℕ) → Holds ps (keyLow b) lower → Holds ps (keyHigh b) high → Holds ps fitsAt fits → (r : ℕ) → r < 64
-        → bitAt (bitAnd (bitAnd (getD lower (textKey b text % 256) 0) (getD high (textKey b text / 256) 0)) (getD fits (lastPlace (length text)) 0)) r ≡ (ltb r (length ps) && isCandidate b text (ranked ps r))
-    candidate-word lower high fits l h f r k =
-        let x = getD lower (textKey b text % 256) 0 in
-        let y = getD high (textKey b text / 256) 0 in
-        let z = getD fits (lastPlace (length text)) 0 in
-        bitAt-and (bitAnd x y) z r ∙ ap (λ (q : Bool). q && bitAt z r) (bitAt-and x y r) ∙ candidate-bit lower high fits l h f r k
-
-    -- LIKELY PATTERNS: the candidates that the own tables have at the bytes of the key of 17 values
-    pub likely-bit : (m : ℕ) (lower high : List ℕ) → ((r : ℕ) → r < 64 → bitAt m r ≡ (ltb r (length ps) && isCandidate b text (ranked ps r))) → Holds ps ownLow lower → Holds ps ownHigh high → (r : ℕ) → r < 64
-        → ((bitAt m r && bitAt (getD lower (textKey 17 text % 256) 0) r) && bitAt (getD high (textKey 17 text / 256) 0) r) ≡ (ltb r (length ps) && isLikely text (ranked ps r))
-    unfolding isCandidate isLikely
-    likely-bit m lower high c l h r k =
-        let p = ranked ps r in
-        ap₂ _&&_ (ap₂ _&&_ (c r k) (l (textKey 17 text % 256) (own-key-bytes .0) r k)) (h (textKey 17 text / 256) (own-key-bytes .1) r k)
-        ∙ common-bit (ltb r (length ps)) (isCandidate b text p) (ownLow (textKey 17 text % 256) p) (ownHigh (textKey 17 text / 256) p) (isLikely text p)
-        (λ t. and-assoc (isCandidate b text p) (ownLow (textKey 17 text % 256) p) (ownHigh (textKey 17 text / 256) p)
-        ∙ ap (λ (q : Bool). isCandidate b text p && q) (own-tests text p (good-pattern ps p good (ranked-mem r t) .0))
-        ∙ candidate-likely p (ranked-mem r t))
-      where
-        candidate-likely : (p : List ℕ) → List·Memᴰ p ps → (isCandidate b text p && eqb (textKey (ownLength p) text) (patternKey (ownLength p) p)) ≡ isLikely text p
-        candidate-likely p m =
-            let e = eqb (textKey (ownLength p) text) (patternKey (ownLength p) p) in
-            test-ext (isCandidate b text p && e) (isLikely text p)
-            (λ t. let s = and-split (isCandidate b text p) e t in
-            and-join (leb (length p) (length text)) e (and-split (leb (length p) (length text)) (eqb (textKey b text) (patternKey b p)) (s .0) .0) (s .1))
-            (λ t. and-join (isCandidate b text p) e (likely-candidate b text p (omega (arith, shortest-positive 17 ps good (omega arith))) (omega (arith, shortest-own ps p m)) t) (and-split (leb (length p) (length text)) e t .1))
-
-  -- the same with no candidates found before: the own tables and the last place
-  pub own-bit : (lower high fits : List ℕ) → Holds ps ownLow lower → Holds ps ownHigh high → Holds ps fitsAt fits → (r : ℕ) → r < 64
-      → ((bitAt (getD lower (textKey 17 text % 256) 0) r && bitAt (getD high (textKey 17 text / 256) 0) r) && bitAt (getD fits (lastPlace (length text)) 0) r) ≡ (ltb r (length ps) && isLikely text (ranked ps r))
+  -- LIKELY PATTERNS: what the own tables at the bytes of the fingerprint of 17 values and the set
+  -- at the last place have in common
+  pub own-bit : (low high fits : List ℕ) → TableOf ps ownLow low → TableOf ps ownHigh high → TableOf ps fitsAt fits → (r : ℕ) → r < 64
+      → ((bitAt (getD low (textFingerprint 17 text % 256) 0) r && bitAt (getD high (textFingerprint 17 text / 256) 0) r) && bitAt
+      (getD fits (lastPlace (length text)) 0) r) ≡ (ltb r (length ps) && isLikely text (ranked ps r))
   unfolding isLikely
-  own-bit lower high fits l h f r k =
+  own-bit low high fits l h f r k =
       let p = ranked ps r in
-      ap₂ _&&_ (ap₂ _&&_ (l (textKey 17 text % 256) (own-key-bytes .0) r k) (h (textKey 17 text / 256) (own-key-bytes .1) r k)) (f (lastPlace (length text)) place-lt r k)
-      ∙ common-bit (ltb r (length ps)) (ownLow (textKey 17 text % 256) p) (ownHigh (textKey 17 text / 256) p) (fitsAt (lastPlace (length text)) p) (isLikely text p)
-      (λ t. ap₂ _&&_ (own-tests text p (good-pattern ps p good (ranked-mem r t) .0)) (fits-test (length text) p some (good-pattern ps p good (ranked-mem r t) .1))
-      ∙ and-comm (eqb (textKey (ownLength p) text) (patternKey (ownLength p) p)) (leb (length p) (length text)))
+      ap₂ _&&_
+      (ap₂ _&&_ (l (textFingerprint 17 text % 256) (own-fingerprint-bytes .0) r k) (h (textFingerprint 17 text / 256) (own-fingerprint-bytes .1) r k))
+      (f (lastPlace (length text)) place-lt r k)
+      ∙ common-bit (ltb r (length ps)) (ownLow (textFingerprint 17 text % 256) p) (ownHigh (textFingerprint 17 text / 256) p)
+      (fitsAt (lastPlace (length text)) p) (isLikely text p)
+      (λ t. let inside = good-pattern ps p good (ranked-mem r t) in
+      ap₂ _&&_ (own-tests text p (inside .0)) (fits-test (length text) p some (inside .1))
+      ∙ and-comm (eqb (textFingerprint (ownLength p) text) (patternFingerprint (ownLength p) p)) (leb (length p) (length text)))
 
 -- ---- as lists of ranks
 
@@ -202,7 +166,8 @@ unfolding tabulate select
 select-below test k zero h = let e : 0 ≡ k = omega arith in ap (λ (m : ℕ). select test (tabulate m (λ r. r))) e
 select-below test k (suc n) h = go (decLt n k) (select-below test k n)
   where
-    go : Dec (n < k) → (k ≤ n → select (λ r. ltb r k && test r) (tabulate n (λ r. r)) ≡ select test (tabulate k (λ r. r))) → select (λ r. ltb r k && test r) (tabulate (suc n) (λ r. r)) ≡ select test (tabulate k (λ r. r))
+    go : Dec (n < k) → (k ≤ n → select (λ r. ltb r k && test r) (tabulate n (λ r. r)) ≡ select test (tabulate k (λ r. r)))
+        → select (λ r. ltb r k && test r) (tabulate (suc n) (λ r. r)) ≡ select test (tabulate k (λ r. r))
     go (yes l) ih =
         let e : suc n ≡ k = omega arith in
         select-below-ext (λ r. ltb r k && test r) test (suc n) (λ r m. rw (lt-ltb r k (omega arith)) refl)
@@ -222,4 +187,5 @@ pub ranks-order : (ps : PatternSet) (test : List ℕ → Bool) → T (goodSet ps
 ranks-order ps test g =
     let at : ℕ → ℕ = λ r. getD (hitOrder ps) r 0 in
     sym (select-map (λ j. test (getD ps j [])) at (tabulate (length ps) (λ r. r)))
-    ∙ ap (select (λ j. test (getD ps j []))) (map-tabulate at (length ps) (λ r. r) ∙ ap (λ (n : ℕ). tabulate n at) (sym (length-hitOrder ps g)) ∙ tabulate-getD 0 (hitOrder ps))
+    ∙ ap (select (λ j. test (getD ps j [])))
+    (map-tabulate at (length ps) (λ r. r) ∙ ap (λ (n : ℕ). tabulate n at) (sym (length-hitOrder ps g)) ∙ tabulate-getD 0 (hitOrder ps))

@@ -1,23 +1,15 @@
--- SETS OF PATTERNS BY RANK: taking the lowest rank out of a set, and checking the likely patterns one by one.
-use mathlib.Core.Path.{_≡_, refl, sym, _∙_, ap, ap₂, subst}
-use mathlib.Core.Bool.{Bool, true, false, not, _&&_, _||_}
-use mathlib.Core.Logic.{_⊎_, inl, inr}
-use mathlib.Core.List.{List, _∷_, List·Memᴰ, List·Memᴰ·head, List·Memᴰ·tail, List·Memᴰ·cases-cons}
-use Prim.Native.Nat.{ℕ, _≤_, _<_}
-use native.Mathlib.Omega.{arith}
-use borrow.Author.Tests.{eq-eqb, eqb-true, ne-eqb, ltb-true}
-use lib.Dec.{T, eqb, leb, ltb, leb→le}
-use lib.IntN.{ℤ}
-use lib.ListN.{length, getD, drop}
-use Rattle.lists.specs.Prelude.{tabulate}
-use Rattle.lists.proofs.Lists.{and-split, and-join, test-ext, and-false, and-true}
-use Rattle.lists.proofs.Order.{T-true, true-T}
+-- SETS OF PATTERNS BY RANK: taking the lowest rank out of a set, and checking the likely patterns
+-- one by one.
+use Rattle.lists.proofs.Prelude.{_≡_, _∙_, ap, sym, refl, subst, ap₂, inl, inr, _⊎_, Bool, true, false, not, _&&_, _||_, List, _∷_, List·Memᴰ, List·Memᴰ·head}
+use Rattle.lists.proofs.Prelude.{List·Memᴰ·tail, List·Memᴰ·cases-cons, ℕ, _≤_, _<_, ℤ, T, eqb, leb, ltb, leb→le, length, getD, drop, arith, eq-eqb, ne-eqb}
+use Rattle.lists.proofs.Prelude.{eqb-true, ltb-true, tabulate}
+use Rattle.lists.proofs.Tests.{and-split, and-join, test-ext, and-false, and-true, T-true, true-T, or-false}
+use Rattle.lists.proofs.Rising.{Rising, rising-select, rising-below}
 use Rattle.bit_sets.specs.BitSets.{bitAt, bits}
 use Rattle.bit_sets.proofs.Laws.{mem-bits}
 use Rattle.bit_sets.proofs.Digits.{bitAt-none}
 use Rattle.pattern_set.specs.PatternSet.{PatternSet, goodSet}
-use Rattle.filter_plan.specs.Plan.{hitOrder, textKey, patternKey, ownLength, isLikely, isHit}
-use Rattle.filter_plan.proofs.More.{Each, each-select, each-tabulate}
+use Rattle.filter_plan.specs.Plan.{hitOrder, textFingerprint, patternFingerprint, ownLength, isLikely, isHit}
 use Rattle.filter_plan.proofs.HitOrder.{good-number, hitOrder-lt, length-hitOrder}
 use Rattle.filter_plan.proofs.Checks.{hit-likely}
 use Rattle.filter_tables.specs.Tables.{ranked}
@@ -25,31 +17,32 @@ use Rattle.filter_windows.specs.Looks.{SetOf}
 
 -- ---- the lowest member
 
-bits-rise : (m : ℕ) → Each (λ i j. i < j) (bits m)
+bits-rise : (m : ℕ) → Rising (λ i j. i < j) (bits m)
 unfolding bits
-bits-rise m = each-select (λ i j. i < j) (bitAt m) (tabulate 64 (λ i. i)) (each-tabulate 64)
+bits-rise m = rising-select (λ i j. i < j) (bitAt m) (tabulate 64 (λ i. i)) (rising-below 64)
 
 pub lowest-in : (m r : ℕ) → bits m ≡ r ∷ drop 1 (bits m) → T (bitAt m r)
 lowest-in m r e = mem-bits m r .0 (subst (λ (l : List ℕ). List·Memᴰ r l) (sym e) (List·Memᴰ·head refl)) .1
 
 -- without its lowest member a set has the others
 lowest-out : (m n r j : ℕ) → bits m ≡ r ∷ drop 1 (bits m) → bits n ≡ drop 1 (bits m) → j < 64 → bitAt n j ≡ (not (eqb j r) && bitAt m j)
-unfolding Each
 lowest-out m n r j e f h = test-ext (bitAt n j) (not (eqb j r) && bitAt m j) from to
   where
     above : List·Memᴰ j (drop 1 (bits m)) → r < j
-    above d = subst (λ (l : List ℕ). Each (λ i j. i < j) l) e (bits-rise m) .0 j d
+    above d = subst (λ (l : List ℕ). Rising (λ i j. i < j) l) e (bits-rise m) .0 j d
 
     from : T (bitAt n j) → T (not (eqb j r) && bitAt m j)
     from t =
         let d : List·Memᴰ j (drop 1 (bits m)) = subst (λ (l : List ℕ). List·Memᴰ j l) f (mem-bits n j .1 (h, t)) in
         let l = above d in
-        and-join (not (eqb j r)) (bitAt m j) (rw (ne-eqb j r (λ q. let z : ⊥ = omega arith in z)) tt) (mem-bits m j .0 (subst (λ (l : List ℕ). List·Memᴰ j l) (sym e) (List·Memᴰ·tail d)) .1)
+        and-join (not (eqb j r)) (bitAt m j) (rw (ne-eqb j r (λ q. let z : ⊥ = omega arith in z)) tt)
+        (mem-bits m j .0 (subst (λ (l : List ℕ). List·Memᴰ j l) (sym e) (List·Memᴰ·tail d)) .1)
 
     to : T (not (eqb j r) && bitAt m j) → T (bitAt n j)
     to t =
         let s = and-split (not (eqb j r)) (bitAt m j) t in
-        mem-bits n j .0 (subst (λ (l : List ℕ). List·Memᴰ j l) (sym f) (rest (s .0) (List·Memᴰ·cases-cons (subst (λ (l : List ℕ). List·Memᴰ j l) e (mem-bits m j .1 (h, s .1)))))) .1
+        let d = List·Memᴰ·cases-cons (subst (λ (l : List ℕ). List·Memᴰ j l) e (mem-bits m j .1 (h, s .1))) in
+        mem-bits n j .0 (subst (λ (l : List ℕ). List·Memᴰ j l) (sym f) (rest (s .0) d)) .1
       where
         rest : T (not (eqb j r)) → (j ≡ r) ⊎ List·Memᴰ j (drop 1 (bits m)) → List·Memᴰ j (drop 1 (bits m))
         rest u (inl q) = absurd (subst (λ (b : Bool). T (not b)) (eq-eqb j r q) u)
@@ -68,25 +61,23 @@ found-none likely hit j h = (bitAt-none j ∙ go (bitAt likely j), λ t. t)
     go true = refl
     go false = refl
 
-module _ (likely rest rest' found found' r : ℕ) (hit : ℕ → Bool) (inv : Found likely rest found hit) (lower : bits rest ≡ r ∷ drop 1 (bits rest)) (out : bits rest' ≡ drop 1 (bits rest)) where
-  found-step : (j : ℕ) → j < 64 → bitAt found' j ≡ ((eqb j r && hit r) || bitAt found j) → (bitAt found' j ≡ (bitAt likely j && (not (bitAt rest' j) && hit j))) × (T (bitAt rest' j) → T (bitAt likely j))
+module _ (likely rest rest' found found' r : ℕ) (hit : ℕ → Bool) (inv : Found likely rest found hit)
+    (least : bits rest ≡ r ∷ drop 1 (bits rest)) (out : bits rest' ≡ drop 1 (bits rest)) where
+  found-step : (j : ℕ) → j < 64 → bitAt found' j ≡ ((eqb j r && hit r) || bitAt found j)
+      → (bitAt found' j ≡ (bitAt likely j && (not (bitAt rest' j) && hit j))) × (T (bitAt rest' j) → T (bitAt likely j))
   found-step j h e = (
-    e ∙ go (eqb j r) refl (bitAt rest j) refl ∙ sym (ap (λ (b : Bool). bitAt likely j && (not b && hit j)) (lowest-out rest rest' r j lower out h)),
-    λ t. inv j h .1 (and-split (not (eqb j r)) (bitAt rest j) (subst T (lowest-out rest rest' r j lower out h) t) .1),
+    e ∙ go (eqb j r) refl (bitAt rest j) refl ∙ sym (ap (λ (b : Bool). bitAt likely j && (not b && hit j)) (lowest-out rest rest' r j least out h)),
+    λ t. inv j h .1 (and-split (not (eqb j r)) (bitAt rest j) (subst T (lowest-out rest rest' r j least out h) t) .1),
   )
     where
       is-likely : j ≡ r → bitAt likely j ≡ true
-      is-likely q = true-T (bitAt likely j) (inv j h .1 (rw q (lowest-in rest r lower)))
+      is-likely q = true-T (bitAt likely j) (inv j h .1 (rw q (lowest-in rest r least)))
 
       go : (b : Bool) → eqb j r ≡ b → (c : Bool) → bitAt rest j ≡ c → ((b && hit r) || bitAt found j) ≡ (bitAt likely j && (not (not b && c) && hit j))
       go true q c f =
           let s : j ≡ r = eqb-true j r q in
-          let t : bitAt rest j ≡ true = true-T (bitAt rest j) (rw s (lowest-in rest r lower)) in
-          rw (inv j h .0, t, is-likely s, s) (end (hit r))
-        where
-          end : (b : Bool) → (b || false) ≡ b
-          end true = refl
-          end false = refl
+          let t : bitAt rest j ≡ true = true-T (bitAt rest j) (rw s (lowest-in rest r least)) in
+          rw (inv j h .0, t, is-likely s, s) (or-false (hit r))
       go false q c f = rw (inv j h .0, f) refl
 
   -- rank r passes the check, or it does not
@@ -97,23 +88,36 @@ module _ (likely rest rest' found found' r : ℕ) (hit : ℕ → Bool) (inv : Fo
   found-no p w j h = found-step j h (ap (λ (x : ℕ). bitAt x j) w ∙ sym (rw (p, and-false (eqb j r)) refl))
 
 -- all of them are checked
-pub found-all : (ps : PatternSet) (text : List ℤ) (likely found : ℕ) → T (goodSet ps) → SetOf ps (isLikely text) likely → Found likely 0 found (λ r. isHit text (ranked ps r)) → SetOf ps (isHit text) found
+pub found-all : (ps : PatternSet) (text : List ℤ) (likely found : ℕ) → T (goodSet ps) → SetOf ps (isLikely text) likely
+    → Found likely 0 found (λ r. isHit text (ranked ps r)) → SetOf ps (isHit text) found
 found-all ps text likely found g l f r h =
     f r h .0
     ∙ ap₂ (λ (x y : Bool). x && (not y && isHit text (ranked ps r))) (l r h) (bitAt-none r)
     ∙ go (ltb r (length ps)) refl (isLikely text (ranked ps r)) refl (isHit text (ranked ps r)) refl
   where
-    go : (a : Bool) → ltb r (length ps) ≡ a → (b : Bool) → isLikely text (ranked ps r) ≡ b → (c : Bool) → isHit text (ranked ps r) ≡ c → ((a && b) && c) ≡ (a && c)
+    go : (a : Bool) → ltb r (length ps) ≡ a → (b : Bool) → isLikely text (ranked ps r) ≡ b → (c : Bool) → isHit text (ranked ps r) ≡ c
+        → ((a && b) && c) ≡ (a && c)
     go true ea true eb c ec = refl
     go true ea false eb false ec = refl
-    go true ea false eb true ec = absurd (subst T eb (hit-likely text (ranked ps r) (good-number ps (getD (hitOrder ps) r 0) g (hitOrder-lt ps r (omega (arith, length-hitOrder ps g, ltb-true r (length ps) ea))) .2) (T-true (isHit text (ranked ps r)) ec)))
+    go true ea false eb true ec =
+        absurd
+        (subst T eb
+        (hit-likely text (ranked ps r)
+        (good-number ps (getD (hitOrder ps) r 0) g (hitOrder-lt ps r (omega (arith, length-hitOrder ps g, ltb-true r (length ps) ea))) .2)
+        (T-true (isHit text (ranked ps r)) ec)))
     go false ea b eb c ec = refl
 
--- a pattern that is likely at the end of a text is one of the set, and its window lies within the text
-pub likely-rank : (ps : PatternSet) (text : List ℤ) (likely r : ℕ) → T (goodSet ps) → SetOf ps (isLikely text) likely → r < 64 → T (bitAt likely r) → (r < length ps) × (getD (hitOrder ps) r 0 < length ps) × (length (ranked ps r) ≤ length text)
+-- a pattern that is likely at the end of a text is one of the set, and its window lies within the
+-- text
+pub likely-rank : (ps : PatternSet) (text : List ℤ) (likely r : ℕ) → T (goodSet ps) → SetOf ps (isLikely text) likely → r < 64 → T (bitAt likely r)
+    → (r < length ps) × (getD (hitOrder ps) r 0 < length ps) × (length (ranked ps r) ≤ length text)
 unfolding isLikely
 likely-rank ps text likely r g l h t =
     let p = ranked ps r in
     let s = and-split (ltb r (length ps)) (isLikely text p) (subst T (l r h) t) in
-    let k : r < length ps = ltb-true r (length ps) (true-T (ltb r (length ps)) (s .0)) in
-    (k, hitOrder-lt ps r (omega (arith, length-hitOrder ps g)), leb→le (length p) (length text) (and-split (leb (length p) (length text)) (eqb (textKey (ownLength p) text) (patternKey (ownLength p) p)) (s .1) .0))
+    let k : r < length ps = ltb-true r (length ps) (true-T (ltb r (length ps)) (s .0)) in (
+      k,
+      hitOrder-lt ps r (omega (arith, length-hitOrder ps g)),
+      leb→le (length p) (length text)
+          (and-split (leb (length p) (length text)) (eqb (textFingerprint (ownLength p) text) (patternFingerprint (ownLength p) p)) (s .1) .0),
+    )

@@ -1,16 +1,8 @@
--- THE CHECK OF A WINDOW: the part of the text that ends at a place and is as long as the pattern passes the comparisons with the pattern's global parents exactly if the pattern has a hit there.
-use mathlib.Core.Path.{_≡_, sym, _∙_, ap, ap₂, subst}
-use mathlib.Core.Bool.{Bool, _&&_}
-use mathlib.Core.List.{List, [], _∷_, _++_, flatten}
-use Prim.Native.Nat.{ℕ, suc, min, _+_, _-_, _≤_, _<_}
-use native.Mathlib.Omega.{arith}
-use borrow.Author.Tests.{le-leb}
-use lib.Dec.{T}
-use lib.IntN.{ℤ}
-use lib.ListN.{length, getD, take, drop, length-take, length-drop}
-use lib.Seq.{length-take-le, take-add, take-all, drop-append-seam}
-use Rattle.lists.specs.Prelude.{lastOf}
-use Rattle.lists.proofs.Members.{length-flatten-suc}
+-- THE CHECK OF A WINDOW: the part of the text that ends at a place and is as long as the pattern
+-- passes the comparisons with the pattern's global parents exactly if the pattern has a hit there.
+use Rattle.lists.proofs.Prelude.{_≡_, _∙_, ap, sym, subst, ap₂, Bool, _&&_, List, [], _∷_, _++_, flatten, ℕ, suc, min, _+_, _-_, _≤_, _<_, ℤ, T, length, getD}
+use Rattle.lists.proofs.Prelude.{take, drop, length-take, length-drop, length-take-le, take-all, take-add, drop-append-seam, arith, le-leb, lastOf}
+use Rattle.lists.proofs.Rows.{length-flatten-suc}
 use Rattle.realization.specs.Realization.{realizable}
 use Rattle.global_parents.specs.GlobalParents.{globalParents}
 use Rattle.pattern_set.specs.PatternSet.{PatternSet, goodSet}
@@ -37,7 +29,8 @@ window-is text m p h l =
     ∙ drop-append-seam (take a text) (take m (drop a text)))
 
 -- where the parents of pattern j begin: as far behind those of pattern 0 as the pattern itself
-pub parents-start : (ps : PatternSet) (j a s : ℕ) → s ≡ 3 + length ps + length (flatten (take 0 ps)) → a ≡ 3 + length ps + length (flatten (take j ps)) → a - s ≡ length (flatten (take j ps))
+pub parents-start : (ps : PatternSet) (j a s : ℕ) → s ≡ 3 + length ps + length (flatten (take 0 ps))
+    → a ≡ 3 + length ps + length (flatten (take j ps)) → a - s ≡ length (flatten (take j ps))
 unfolding flatten
 parents-start ps j a s e f = omega (arith, e, f)
 
@@ -51,11 +44,15 @@ module _ (ps : PatternSet) (parents : List ℕ) (holds : Parents ps parents) (j 
   parents-fit h =
       let p = getD ps j [] in
       let a = length (flatten (take j ps)) in
-      let e : min (length p) (length parents - a) ≡ length p = sym (length-take (length p) (drop a parents) ∙ ap (min (length p)) (length-drop a parents)) ∙ ap length (holds j k) ∙ length-globalParents p in
+      let e : min (length p) (length parents - a) ≡ length p =
+      sym (length-take (length p) (drop a parents) ∙ ap (min (length p)) (length-drop a parents)) ∙ ap length (holds j k) ∙ length-globalParents p in
       omega arith
 
-  -- the check of the part of the text from b on against the part of the parents from a on, if these are the window and the pattern's parents
-  module _ (text : List ℤ) (p a n b m : ℕ) (le : length (getD ps j []) ≤ suc p) (lt : p < length text) (ea : a ≡ length (flatten (take j ps))) (en : n ≡ length (getD ps j [])) (eb : b ≡ suc p - length (getD ps j [])) (em : m ≡ length (getD ps j [])) where
+  -- the check of the part of the text from b on against the part of the parents from a on, if these
+  -- are the window and the pattern's parents
+  module _ (text : List ℤ) (p a n b m : ℕ) (le : length (getD ps j []) ≤ suc p) (lt : p < length text)
+      (ea : a ≡ length (flatten (take j ps))) (en : n ≡ length (getD ps j []))
+      (eb : b ≡ suc p - length (getD ps j [])) (em : m ≡ length (getD ps j [])) where
     parents-are : take n (drop a parents) ≡ globalParents (getD ps j [])
     parents-are = rw (en, ea) (holds j k)
 
@@ -96,7 +93,8 @@ parents-room (p ∷ qs) parents g h =
     (rw (length-flatten-suc ps j k) (parents-fit ps parents h j k (good-number ps j g k .0)))
 
 -- filling it leaves its length
-pub parents-length : (ps : PatternSet) (parents old : List ℕ) → T (goodSet ps) → Parents ps parents → length (flatten ps) ≤ length old → drop (length (flatten ps)) parents ≡ drop (length (flatten ps)) old → length parents ≡ length old
+pub parents-length : (ps : PatternSet) (parents old : List ℕ) → T (goodSet ps) → Parents ps parents → length (flatten ps) ≤ length old
+    → drop (length (flatten ps)) parents ≡ drop (length (flatten ps)) old → length parents ≡ length old
 parents-length ps parents old g h l e =
     let n = length (flatten ps) in
     let d : length parents - n ≡ length old - n = sym (length-drop n parents) ∙ ap length e ∙ length-drop n old in

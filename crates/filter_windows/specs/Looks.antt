@@ -1,11 +1,12 @@
--- What a look at a place of a text finds, and what it asks of the tables. A set of patterns is a u64: bit r stands for the pattern of rank r in the order of hits.
-use Rattle.lists.specs.Prelude.{_≡_, cond, _&&_, Bool, List, ℕ, zero, suc, _<_, ltb, ℤ, pos, leZ, length, getD}
+-- What a look at a place of a text finds, and what it asks of the tables. A set of patterns is a
+-- u64: bit r stands for the pattern of rank r in the order of hits.
+use Rattle.lists.specs.Prelude.{_≡_, Bool, cond, _&&_, List, ℕ, zero, suc, min, _/_, _%_, _<_, ltb, ℤ, pos, leZ, length, getD}
 use Rattle.bit_sets.specs.BitSets.{bitAt}
 use Rattle.pattern_set.specs.PatternSet.{PatternSet}
-use Rattle.model.specs.Entries.{shortest}
-use Rattle.filter_tables.specs.Tables.{ranked, Holds, keyLow, keyHigh, ownLow, ownHigh, fitsAt, Ranks, Parents}
+use Rattle.matching.specs.Matching.{shortest}
+use Rattle.filter_tables.specs.Tables.{ranked, TableOf, setLow, setHigh, ownLow, ownHigh, fitsAt, Ranks, Parents}
 
--- the bit that place p adds to the keys: 1 where its value is not below the one before it
+-- the bit that place p adds to the fingerprints: 1 where its value is not below the one before it
 unfoldable pub newBit : List ℤ → ℕ → ℕ
 newBit text zero = 0
 newBit text (suc p) = cond (leZ (getD text p (pos 0)) (getD text (suc p) (pos 0))) 1 0
@@ -14,21 +15,45 @@ newBit text (suc p) = cond (leZ (getD text p (pos 0)) (getD text (suc p) (pos 0)
 abbrev pub SetOf : PatternSet → (List ℕ → Bool) → ℕ → Type 0
 SetOf ps test set = (r : ℕ) → r < 64 → bitAt set r ≡ (ltb r (length ps) && test (ranked ps r))
 
+-- ---- looks into the tables
+
+-- the set has the patterns that two tables have for a fingerprint, by its lower and by its high
+-- byte
+abbrev pub Alike : List ℕ → List ℕ → ℕ → ℕ → Type 0
+Alike low high fingerprint set =
+    (r : ℕ) → r < 64 → bitAt set r ≡ (bitAt (getD low (fingerprint % 256) 0) r && bitAt (getD high (fingerprint / 256) 0) r)
+
+-- the second set has those of the first that the table by last places has for p, or for 255 where p
+-- is behind it
+abbrev pub Fitting : List ℕ → ℕ → ℕ → ℕ → Type 0
+Fitting fits p all set = (r : ℕ) → r < 64 → bitAt set r ≡ (bitAt all r && bitAt (getD fits (min 255 p) 0) r)
+
+-- the set has the patterns that all three tables have
+abbrev pub Looked : List ℕ → List ℕ → List ℕ → ℕ → ℕ → ℕ → Type 0
+Looked low high fits fingerprint p set =
+    (r : ℕ) → r < 64
+    → bitAt set r ≡ (bitAt (getD low (fingerprint % 256) 0) r && bitAt (getD high (fingerprint / 256) 0) r && bitAt (getD fits (min 255 p) 0) r)
+
 -- ---- the tables
 
 -- for the candidates: by the fingerprint of the last b values, and by the last place
-pub record KeyTables (ps : PatternSet) (lower high fits : List ℕ) : Type 0 where
-  pub byLow : Holds ps (keyLow (shortest 17 ps)) lower
-  pub byHigh : Holds ps (keyHigh (shortest 17 ps)) high
-  pub byPlace : Holds ps fitsAt fits
+pub record SetTables (ps : PatternSet) (low high fits : List ℕ) : Type 0 where
+  pub byLow : TableOf ps (setLow (shortest 17 ps)) low
+  pub byHigh : TableOf ps (setHigh (shortest 17 ps)) high
+  pub byPlace : TableOf ps fitsAt fits
 
 -- for the likely patterns: by the fingerprint of the last 17 values, and by the last place
-pub record OwnTables (ps : PatternSet) (lower high fits : List ℕ) : Type 0 where
-  pub byLow : Holds ps ownLow lower
-  pub byHigh : Holds ps ownHigh high
-  pub byPlace : Holds ps fitsAt fits
+pub record OwnTables (ps : PatternSet) (low high fits : List ℕ) : Type 0 where
+  pub byLow : TableOf ps ownLow low
+  pub byHigh : TableOf ps ownHigh high
+  pub byPlace : TableOf ps fitsAt fits
 
 -- for the check: pattern numbers by rank, and global parents
 pub record CheckTables (ps : PatternSet) (numbers parents : List ℕ) : Type 0 where
   pub ranks : Ranks ps numbers
   pub parentLists : Parents ps parents
+
+-- for the hits: for the likely patterns and for their check
+pub record HitTables (ps : PatternSet) (low high fits numbers parents : List ℕ) : Type 0 where
+  pub own : OwnTables ps low high fits
+  pub check : CheckTables ps numbers parents

@@ -1,24 +1,12 @@
-// A look at the patterns of a place of a text: by its key first, then by the global parents of the windows that are left.
-ghost use mathlib.Core.Path.{_≡_};
-ghost use mathlib.Core.Bool.{_&&_};
-ghost use mathlib.Core.List.{[]};
-ghost use Prim.Native.Nat.{ℕ, suc, min, _+_, _-_, _*_, _/_, _%_, _^_, _≤_, _<_};
-ghost use lib.IntN.{pos};
-ghost use lib.Signed.{leZ};
-ghost use lib.ListN.{length, getD, take};
-ghost use Rattle.bit_sets.specs.BitSets.{bitAt};
-ghost use Rattle.set_access.specs.Patterns.{patternsOf, Good};
-ghost use Rattle.filter_plan.specs.Plan.{textKey, isLikely, isHit};
+// A look at the patterns of a place of a text: by its fingerprint first, then by the global parents
+// of the windows that are left.
+ghost use Rattle.lists.specs.Prelude.{_≡_, [], suc, min, _+_, _-_, _*_, _/_, _%_, _^_, _≤_, _<_, pos, leZ, length, getD, take};
+ghost use Rattle.pattern_set.specs.PatternSet.{patternsOf, IsSet};
+ghost use Rattle.filter_plan.specs.Plan.{textFingerprint, isLikely, isHit};
 ghost use Rattle.filter_tables.specs.Tables.{Parents};
-ghost use Rattle.filter_windows.specs.Looks.{newBit, SetOf, OwnTables, CheckTables};
+ghost use Rattle.filter_windows.specs.Looks.{newBit, Alike, Fitting, Looked, SetOf, CheckTables, HitTables};
 
-// ---- keys
-
-fn wide(x: u32) -> usize
-    ensures { λ r. ⌜ r ≡ x ⌝ }
-{
-    x as usize
-}
+// ---- fingerprints
 
 // Whether the value at place p is not below the one before it.
 fn not_below(text: &[i32], p: usize) -> bool
@@ -28,8 +16,8 @@ fn not_below(text: &[i32], p: usize) -> bool
     text[p - 1] <= text[p]
 }
 
-// The bit that place p adds to a key: 1 where its value is not below the one before it.
-pub fn new_bit(text: &[i32], p: usize) -> u32
+// The bit that place p adds to a fingerprint: 1 where its value is not below the one before it.
+fn new_bit(text: &[i32], p: usize) -> u32
     requires { ⌜ p < length (now text) ⌝ }
     ensures { λ r. ⌜ (r ≡ newBit (now (text .entry)) p) × (r < 2) ⌝ }
 {
@@ -42,13 +30,20 @@ pub fn new_bit(text: &[i32], p: usize) -> u32
     }
 }
 
-// The key of the last b values, one place on: a shift, the new bit and a mask.
-pub fn roll(key: u32, bit: u32, b: usize) -> u32
-    requires { ⌜ (key < 65536) × (bit < 2) × (1 ≤ b) × (b ≤ 17) ⌝ }
-    ensures { λ r. ⌜ r ≡ (key * 2 + bit) % 2 ^ (b - 1) ⌝ }
+// A fingerprint of 17 values, one place on: a shift, the new bit and a mask.
+fn roll(fingerprint: u32, bit: u32) -> u32
+    requires { ⌜ (fingerprint < 65536) × (bit < 2) ⌝ }
+    ensures { λ r. ⌜ r ≡ (fingerprint * 2 + bit) % 65536 ⌝ }
 {
-    let mask: u32 = (1 << (b - 1)) - 1;
-    ((key << 1) | bit) & mask
+    ((fingerprint << 1) | bit) & 65535
+}
+
+// The fingerprint of the last 17 values up to place p, where own is the one before it.
+pub fn own_next(text: &[i32], p: usize, own: u32) -> u32
+    requires { ⌜ (p < length (now text)) × (own ≡ textFingerprint 17 (take p (now text))) ⌝ }
+    ensures { λ r. ⌜ r ≡ textFingerprint 17 (take (suc p) (now (text .entry))) ⌝ }
+{
+    roll(own, new_bit(text, p))
 }
 
 // The place 16 places back, or the first.
@@ -58,20 +53,31 @@ fn back_16(end: usize) -> usize
     if end < 16 { 0 } else { end - 16 }
 }
 
-// The key of the last 17 values before a place, from the bits of the last 16 places.
-pub fn key_before(text: &[i32], end: usize) -> u32
+// The fingerprint of the last 17 values before a place, from the bits of the last 16 places.
+pub fn fingerprint_before(text: &[i32], end: usize) -> u32
     requires { ⌜ end ≤ length (now text) ⌝ }
-    ensures { λ r. ⌜ r ≡ textKey 17 (take end (now (text .entry))) ⌝ }
+    ensures { λ r. ⌜ r ≡ textFingerprint 17 (take end (now (text .entry))) ⌝ }
 {
     let mut p = back_16(end);
-    let mut key = 0;
+    let mut fingerprint = 0;
     while p < end {
         let bit = new_bit(text, p);
-        key = roll(key, bit, 17);
+        fingerprint = roll(fingerprint, bit);
         p += 1;
     }
-    key
+    fingerprint
 }
+
+// The fingerprint of the last b values, from that of the last 17: its lowest bits.
+fn shorter(own: u32, b: usize) -> u32
+    requires { ⌜ (1 ≤ b) × (b ≤ 17) ⌝ }
+    ensures { λ r. ⌜ r ≡ own % 2 ^ (b - 1) ⌝ }
+{
+    let mask: u32 = (1 << (b - 1)) - 1;
+    own & mask
+}
+
+// ---- looks into the tables
 
 // The entry of the table by last places for p: all windows fit at place 255 and after it.
 fn capped(p: usize) -> usize
@@ -80,28 +86,60 @@ fn capped(p: usize) -> usize
     if p < 255 { p } else { 255 }
 }
 
-// The patterns that two tables have, for a key by its two bytes.
-pub fn by_key(lower: &[u64; 256], high: &[u64; 256], key: u32) -> u64
-    requires { ⌜ key < 65536 ⌝ }
-    ensures { λ s. ⌜ ((r : ℕ) → r < 64 → bitAt s r ≡ (bitAt (getD (now (lower .entry)) (key % 256) 0) r && bitAt (getD (now (high .entry)) (key / 256) 0) r)) ⌝ }
+// The patterns that two tables have, for a fingerprint by its two bytes.
+fn by_fingerprint(low: &[u64; 256], high: &[u64; 256], fingerprint: u32) -> u64
+    requires { ⌜ fingerprint < 65536 ⌝ }
+    ensures { λ s. ⌜ Alike (now (low .entry)) (now (high .entry)) fingerprint s ⌝ }
 {
-    let k = wide(key);
-    bit_sets::common(lower[k % 256], high[k / 256])
+    let k = casts::wide(fingerprint);
+    bit_sets::common(low[k % 256], high[k / 256])
 }
 
 // Of a set of patterns those whose window with the last place p lies within the text.
-pub fn fitting(set: u64, fits: &[u64; 256], p: usize) -> u64
-    ensures { λ s. ⌜ ((r : ℕ) → r < 64 → bitAt s r ≡ (bitAt set r && bitAt (getD (now (fits .entry)) (min 255 p) 0) r)) ⌝ }
+fn fitting(set: u64, fits: &[u64; 256], p: usize) -> u64
+    ensures { λ s. ⌜ Fitting (now (fits .entry)) p set s ⌝ }
 {
     let last = capped(p);
     bit_sets::common(set, fits[last])
 }
 
+// The patterns that the tables have for a fingerprint and for the last place p. Where no pattern
+// has the fingerprint, the place is not asked for.
+fn look(low: &[u64; 256], high: &[u64; 256], fits: &[u64; 256], fingerprint: u32, p: usize) -> u64
+    requires { ⌜ fingerprint < 65536 ⌝ }
+    ensures { λ s. ⌜ Looked (now (low .entry)) (now (high .entry)) (now (fits .entry)) fingerprint p s ⌝ }
+{
+    let alike = by_fingerprint(low, high, fingerprint);
+    if alike == 0 {
+        0
+    } else {
+        fitting(alike, fits, p)
+    }
+}
+
+// A look with the set fingerprint, which is of b values, where own is the fingerprint of the last
+// 17: it finds the candidates.
+pub fn candidates_at(
+    setlow: &[u64; 256],
+    sethigh: &[u64; 256],
+    fits: &[u64; 256],
+    own: u32,
+    b: usize,
+    p: usize,
+) -> u64
+    requires { ⌜ (own < 65536) × (1 ≤ b) × (b ≤ 17) ⌝ }
+    ensures { λ s. ⌜ Looked (now (setlow .entry)) (now (sethigh .entry)) (now (fits .entry)) (own % 2 ^ (b - 1)) p s ⌝ }
+{
+    let fingerprint = shorter(own, b);
+    look(setlow, sethigh, fits, fingerprint, p)
+}
+
 // ---- windows
 
-// Whether pattern j, whose window lies within the text, has a hit at the last place p: its window is checked by its global parents.
+// Whether pattern j, whose window lies within the text, has a hit at the last place p: its window
+// is checked by its global parents.
 fn has_hit(set: &[u32], text: &[i32], p: usize, j: usize, parents: &[u32]) -> bool
-    requires { ⌜ Good (now set) ⌝ }
+    requires { ⌜ IsSet (now set) ⌝ }
     requires { ⌜ (p < length (now text)) × (j < length (patternsOf (now set))) × (length (getD (patternsOf (now set)) j []) ≤ suc p) ⌝ }
     requires { ⌜ Parents (patternsOf (now set)) (now parents) ⌝ }
     ensures { λ r. ⌜ r ≡ isHit (take (suc p) (now (text .entry))) (getD (patternsOf (now (set .entry))) j []) ⌝ }
@@ -124,7 +162,7 @@ fn verified(
     numbers: &[u32; 64],
     parents: &[u32],
 ) -> u64
-    requires { ⌜ Good (now set) ⌝ }
+    requires { ⌜ IsSet (now set) ⌝ }
     requires { ⌜ p < length (now text) ⌝ }
     requires { ⌜ SetOf (patternsOf (now set)) (isLikely (take (suc p) (now text))) likely ⌝ }
     requires { ⌜ CheckTables (patternsOf (now set)) (now numbers) (now parents) ⌝ }
@@ -134,7 +172,7 @@ fn verified(
     let mut found = 0;
     while rest != 0 {
         let r = bit_sets::lowest(rest);
-        if has_hit(set, text, p, wide(numbers[r]), parents) {
+        if has_hit(set, text, p, casts::wide(numbers[r]), parents) {
             found = bit_sets::with_bit(found, r);
         }
         rest = bit_sets::without_lowest(rest);
@@ -142,24 +180,24 @@ fn verified(
     found
 }
 
-// The patterns that have a hit at the last place p, where own is the key of the last 17 values.
+// The patterns that have a hit at the last place p, where own is the fingerprint of the last 17
+// values.
 pub fn hits_at(
     set: &[u32],
     text: &[i32],
     p: usize,
     own: u32,
-    lower: &[u64; 256],
-    high: &[u64; 256],
+    ownlow: &[u64; 256],
+    ownhigh: &[u64; 256],
     fits: &[u64; 256],
     numbers: &[u32; 64],
     parents: &[u32],
 ) -> u64
-    requires { ⌜ Good (now set) ⌝ }
-    requires { ⌜ (p < length (now text)) × (own ≡ textKey 17 (take (suc p) (now text))) ⌝ }
-    requires { ⌜ OwnTables (patternsOf (now set)) (now lower) (now high) (now fits) ⌝ }
-    requires { ⌜ CheckTables (patternsOf (now set)) (now numbers) (now parents) ⌝ }
+    requires { ⌜ IsSet (now set) ⌝ }
+    requires { ⌜ (p < length (now text)) × (own ≡ textFingerprint 17 (take (suc p) (now text))) ⌝ }
+    requires { ⌜ HitTables (patternsOf (now set)) (now ownlow) (now ownhigh) (now fits) (now numbers) (now parents) ⌝ }
     ensures { λ s. ⌜ SetOf (patternsOf (now (set .entry))) (isHit (take (suc p) (now (text .entry)))) s ⌝ }
 {
-    let likely = fitting(by_key(lower, high, own), fits, p);
+    let likely = look(ownlow, ownhigh, fits, own, p);
     verified(set, text, p, likely, numbers, parents)
 }

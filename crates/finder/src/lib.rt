@@ -1,11 +1,12 @@
-// The finder's entries. A caller lists this crate and `answers`, which declares the answers, the refusals and the search
-// state. No entry asks anything of its caller: each answers, or refuses by document 01's number and changes no word.
-ghost use mathlib.Core.Path.{_≡_};
+// The finder's entries. A caller lists this crate and `answers`, which declares the answers, the
+// refusals and the search state. No entry asks anything of its caller: each answers, or refuses by
+// document 01's number and changes no word.
+ghost use Rattle.lists.specs.Prelude.{_≡_};
 ghost use Rattle.answers.specs.Told.{toldWritten, toldEncoded, toldSize, toldBuilt, toldFiltered, toldStreamed};
 ghost use Rattle.realization.specs.Realization.{leastRealization, failureLengths};
 ghost use Rattle.global_parents.specs.GlobalParents.{globalParents};
-ghost use Rattle.model.specs.Refusals.{told, after};
-ghost use Rattle.model.specs.Entries.{distancesEntry, listEntry, encodeEntry, decodeEntry, emptySetEntry, checkEntry, addEntry, buildEntry, streamEntry, streamState, filterEntry};
+ghost use Rattle.entries.specs.Entries.{told, after, distancesEntry, listEntry, encodeEntry, decodeEntry, emptySetEntry, checkEntry, addEntry, buildEntry};
+ghost use Rattle.entries.specs.Entries.{streamEntry, streamState, filterEntry};
 use answers::Built;
 use answers::Encoded;
 use answers::Filtered;
@@ -80,7 +81,8 @@ pub fn check_set(words: &[u32]) -> SetSize
     set_arrays::check_set(words)
 }
 
-// Adds a pattern, given as values, as the last one, in place; tells the size of the larger set. Refuses 1 2 5 6 10.
+// Adds a pattern, given as values, as the last one, in place; tells the size of the larger set.
+// Refuses 1 2 5 6 10.
 pub fn add_pattern(words: &mut [u32], values: &[i32]) -> SetSize
     ensures { λ r. ⌜ toldSize r ≡ told (0, 0) (addEntry (now (words .entry)) (now (values .entry))) ⌝ }
     ensures { λ _. ⌜ now (words .exit) ≡ after (addEntry (now (words .entry)) (now (values .entry))) (now (words .entry)) ⌝ }
@@ -98,8 +100,9 @@ pub fn build_automaton(set: &[u32], out: &mut [u32]) -> Built
     automaton::build_automaton(set, out)
 }
 
-// Searches on from a state, at first `SearchState::new()`: takes values until they end or the hit array may be too short for the hits of one more,
-// writes the hits that end at them, and hands the state back. Refuses 1 5 7 8 9 10.
+// Searches on from a state, at first `SearchState::new()`: takes values until they end or the hit
+// array may be too short for the hits of one more, writes the hits that end at them, and hands the
+// state back. Refuses 1 5 7 8 9 10.
 pub fn stream_search(
     set: &[u32],
     automaton: &[u32],
@@ -107,14 +110,17 @@ pub fn stream_search(
     values: &[i32],
     hits: &mut [u32],
 ) -> Streamed
-    ensures { λ r. ⌜ toldStreamed (r .answer) ≡ told (0, 0, 0, 0) (streamEntry (now (set .entry)) (now (automaton .entry)) state (now (values .entry)) (now (hits .entry))) ⌝ }
+    ensures { λ r. ⌜ toldStreamed (r .answer)
+        ≡ told (0, 0, 0, 0) (streamEntry (now (set .entry)) (now (automaton .entry)) state (now (values .entry)) (now (hits .entry))) ⌝ }
     ensures { λ r. ⌜ r .state ≡ streamState (now (set .entry)) (now (automaton .entry)) state (now (values .entry)) (now (hits .entry)) ⌝ }
-    ensures { λ _. ⌜ now (hits .exit) ≡ after (streamEntry (now (set .entry)) (now (automaton .entry)) state (now (values .entry)) (now (hits .entry))) (now (hits .entry)) ⌝ }
+    ensures { λ _. ⌜ now (hits .exit)
+        ≡ after (streamEntry (now (set .entry)) (now (automaton .entry)) state (now (values .entry)) (now (hits .entry))) (now (hits .entry)) ⌝ }
 {
     stream_search::stream_search(set, automaton, state, values, hits)
 }
 
-// Lists the hits of a whole text: by last place, longer pattern first, then lower number; tells hits and candidates. Refuses 1 5 9 11.
+// Lists the hits of a whole text: by last place, longer pattern first, then lower number; tells
+// hits and candidates. Refuses 1 5 9 11.
 pub fn filter_search(set: &[u32], text: &[i32], hits: &mut [u32]) -> Filtered
     ensures { λ r. ⌜ toldFiltered r ≡ told (0, 0) (filterEntry (now (set .entry)) (now (text .entry)) (now (hits .entry))) ⌝ }
     ensures { λ _. ⌜ now (hits .exit) ≡ after (filterEntry (now (set .entry)) (now (text .entry)) (now (hits .entry))) (now (hits .entry)) ⌝ }

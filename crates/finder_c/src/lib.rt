@@ -1,11 +1,11 @@
-// The finder's entries for C and Rust: each returns a struct of numbers. A slice is a pointer and a length; include/finder.h documents each function.
-ghost use mathlib.Core.Path.{_≡_};
-ghost use Rattle.answers.specs.Told.{toldWritten, toldEncoded, toldSize, toldBuilt, toldFiltered, toldStreamed};
-ghost use Rattle.answers.specs.NewSearch.{newSearch};
+// The finder's entries for C and Rust: each returns a struct of numbers. A slice is a pointer and a
+// length; include/finder.h documents each function.
+ghost use Rattle.lists.specs.Prelude.{_≡_};
+ghost use Rattle.answers.specs.Told.{toldWritten, toldEncoded, toldSize, toldBuilt, toldFiltered, toldStreamed, newSearch};
 ghost use Rattle.realization.specs.Realization.{leastRealization, failureLengths};
 ghost use Rattle.global_parents.specs.GlobalParents.{globalParents};
-ghost use Rattle.model.specs.Refusals.{told, after};
-ghost use Rattle.model.specs.Entries.{distancesEntry, listEntry, encodeEntry, decodeEntry, emptySetEntry, checkEntry, addEntry, buildEntry, streamEntry, streamState, filterEntry};
+ghost use Rattle.entries.specs.Entries.{told, after, distancesEntry, listEntry, encodeEntry, decodeEntry, emptySetEntry, checkEntry, addEntry, buildEntry};
+ghost use Rattle.entries.specs.Entries.{streamEntry, streamState, filterEntry};
 ghost use Rattle.finder_c.specs.Told.{tellsWritten, tellsCode, tellsCounts, tellsStreamed};
 use answers::Built;
 use answers::Counts;
@@ -272,9 +272,11 @@ pub extern "C" fn finder_stream_search(
     values: &[i32],
     hits: &mut [u32],
 ) -> FinderStreamed
-    ensures { λ r. ⌜ tellsStreamed r ≡ told (0, 0, 0, 0) (streamEntry (now (set .entry)) (now (automaton .entry)) state (now (values .entry)) (now (hits .entry))) ⌝ }
+    ensures { λ r. ⌜ tellsStreamed r
+        ≡ told (0, 0, 0, 0) (streamEntry (now (set .entry)) (now (automaton .entry)) state (now (values .entry)) (now (hits .entry))) ⌝ }
     ensures { λ r. ⌜ r .state ≡ streamState (now (set .entry)) (now (automaton .entry)) state (now (values .entry)) (now (hits .entry)) ⌝ }
-    ensures { λ _. ⌜ now (hits .exit) ≡ after (streamEntry (now (set .entry)) (now (automaton .entry)) state (now (values .entry)) (now (hits .entry))) (now (hits .entry)) ⌝ }
+    ensures { λ _. ⌜ now (hits .exit)
+        ≡ after (streamEntry (now (set .entry)) (now (automaton .entry)) state (now (values .entry)) (now (hits .entry))) (now (hits .entry)) ⌝ }
 {
     let s = finder::stream_search(set, automaton, state, values, hits);
     let next = s.state;

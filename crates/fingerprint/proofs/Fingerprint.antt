@@ -1,17 +1,8 @@
--- A fingerprint is read off the parent distances: a value is not below the one before it exactly if its parent is that one, at distance 1. So values with equal trees have equal fingerprints. And how a fingerprint grows by a value at the end and sheds one at the front.
-use mathlib.Core.Path.{_≡_, refl, sym, _∙_, ap}
-use mathlib.Core.Bool.{Bool, true, false, cond}
-use mathlib.Core.List.{List, [], _∷_, _++_}
-use Prim.Native.Nat.{ℕ, suc, _+_, _*_, _^_, _%_, _<_}
-use native.Mathlib.Nat.{pow-suc, mul-add-mod-self-right, mod-eq-of-lt}
-use native.Mathlib.Omega.{arith}
-use native.Mathlib.Numerals.{add-one, add-two}
-use borrow.Author.Tests.{ne-eqb}
-use lib.Dec.{eqb}
-use lib.IntN.{ℤ}
-use lib.Signed.{leZ}
-use lib.ListN.{length, length-append}
-use Rattle.lists.specs.Prelude.{lastOf}
+-- A fingerprint is read off the parent distances: a value is not below the one before it exactly if
+-- its parent is that one, at distance 1. So values with equal trees have equal fingerprints. And
+-- how a fingerprint grows by a value at the end and sheds one at the front.
+use Rattle.lists.proofs.Prelude.{_≡_, _∙_, ap, sym, refl, Bool, true, false, cond, List, [], _∷_, _++_, ℕ, suc, _+_, _*_, _%_, _^_, _<_, ℤ, leZ, eqb, length}
+use Rattle.lists.proofs.Prelude.{length-append, pow-suc, mod-eq-of-lt, mul-add-mod-self-right, add-one, add-two, arith, ne-eqb, lastOf}
 use Rattle.cartesian.specs.Cartesian.{tree, distances}
 use Rattle.cartesian.specs.Windows.{suffixDistances}
 use Rattle.cartesian.proofs.ByList.{back, distsFrom, distances-list}
@@ -26,7 +17,8 @@ unfoldable pub distanceBits : List ℕ → ℕ
 distanceBits [] = 0
 distanceBits (d ∷ ds) = cond (eqb d 1) 1 0 * 2 ^ length ds + distanceBits ds
 
--- the fingerprint of the values that have these distances: the first value has none before it, so its distance gives no bit
+-- the fingerprint of the values that have these distances: the first value has none before it, so
+-- its distance gives no bit
 unfoldable pub fingerprintOf : List ℕ → ℕ
 fingerprintOf [] = 0
 fingerprintOf (d ∷ ds) = distanceBits ds

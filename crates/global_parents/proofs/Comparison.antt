@@ -1,14 +1,8 @@
--- One comparison of a value with its global parent, as facts: the parent is not above the value, and below it where the parent is to the right.
-use mathlib.Core.Bool.{_&&_, _||_}
-use mathlib.Core.Logic.{_⊎_, inl, inr}
-use mathlib.Core.List.{List}
-use Prim.Native.Nat.{ℕ, _≤_, _<_}
-use native.Mathlib.Omega.{arith}
-use lib.Dec.{T, leb, leb→le, le→leb}
-use lib.IntN.{ℤ, pos}
-use lib.Signed.{leZ, ltZ, _≤ℤ_, _<ℤ_, leZ-yes, ltZ-yes}
-use lib.ListN.{getD}
-use Rattle.lists.proofs.Lists.{and-split, and-join, or-cases, or-left, or-right}
+-- One comparison of a value with its global parent, as facts: the parent is not above the value,
+-- and below it where the parent is to the right.
+use Rattle.lists.proofs.Prelude.{inl, inr, _⊎_, _&&_, _||_, List, ℕ, _≤_, _<_, ℤ, pos, leZ, ltZ, _≤ℤ_, _<ℤ_, ltZ-yes, leZ-yes, T, leb, leb→le, le→leb, getD}
+use Rattle.lists.proofs.Prelude.{arith}
+use Rattle.lists.proofs.Tests.{and-split, and-join, or-cases, or-left, or-right}
 use Rattle.lists.proofs.Order.{≤ℤ-total, <ℤ-≤ℤ}
 use Rattle.global_parents.specs.Passes.{passesAt}
 
@@ -31,7 +25,9 @@ whole a b g i (inl p) = or-left (ltZ a b) (leZ a b && leZ b a && leb g i) (p .lt
 whole a b g i (inr p) = go (≤ℤ-total b a)
   where
     go : (b ≤ℤ a) ⊎ (a <ℤ b) → T (ltZ a b || (leZ a b && leZ b a && leb g i))
-    go (inl q) = or-right (ltZ a b) (leZ a b && leZ b a && leb g i) (and-join (leZ a b && leZ b a) (leb g i) (and-join (leZ a b) (leZ b a) (p .0 .le) (q .le)) (le→leb g i (p .1)))
+    go (inl q) =
+        or-right (ltZ a b) (leZ a b && leZ b a && leb g i)
+        (and-join (leZ a b && leZ b a) (leb g i) (and-join (leZ a b) (leZ b a) (p .0 .le) (q .le)) (le→leb g i (p .1)))
     go (inr q) = or-left (ltZ a b) (leZ a b && leZ b a && leb g i) (q .lt)
 
 pub passes-not-above : (xs : List ℤ) (g i : ℕ) → T (passesAt xs g i) → value xs g ≤ℤ value xs i

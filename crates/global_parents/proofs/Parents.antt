@@ -1,26 +1,20 @@
--- THE LAW OF GLOBAL PARENTS: the global parents of distances are the parents in the tree.
--- A left child has its parent on its right, as the only place whose left child it is; a right child has its parent on its left, at its distance; the root is its own.
-use mathlib.Core.Path.{_≡_, refl, sym, _∙_, ap}
-use mathlib.Core.Bool.{Bool, _&&_}
-use mathlib.Core.Logic.{_⊎_, inl, inr}
-use mathlib.Core.List.{List}
-use mathlib.Core.Option.{Option, none, some, Option·some-injective, Option·none-ne-some}
-use Prim.Native.Nat.{ℕ, zero, suc, _+_, _-_, _≤_, _<_}
-use native.Mathlib.Omega.{arith}
-use lib.Dec.{T, ltb, eqb→eq, eqb-refl, lt→ltb}
-use lib.IntN.{ℤ}
-use lib.ListN.{length, getD, take}
-use lib.Seq.{ext-getD}
-use Rattle.lists.specs.Prelude.{lastBelow}
-use Rattle.lists.proofs.Lists.{and-split, and-join, length-tabulate, getD-tabulate, lastBelow-passes, lastBelow-le, lastBelow-none}
+-- THE LAW OF GLOBAL PARENTS: the global parents of distances are the parents in the tree. A left
+-- child has its parent on its right, as the only place whose left child it is; a right child has
+-- its parent on its left, at its distance; the root is its own.
+use Rattle.lists.proofs.Prelude.{_≡_, _∙_, ap, sym, refl, inl, inr, _⊎_, Bool, _&&_, Option, none, some, Option·some-injective, Option·none-ne-some, List, ℕ}
+use Rattle.lists.proofs.Prelude.{zero, suc, _+_, _-_, _≤_, _<_, ℤ, T, ltb, eqb→eq, lt→ltb, eqb-refl, length, getD, take, ext-getD, arith, lastBelow}
+use Rattle.lists.proofs.Tests.{and-split, and-join}
+use Rattle.lists.proofs.Tables.{length-tabulate, getD-tabulate}
+use Rattle.lists.proofs.LastBelow.{lastBelow-passes, lastBelow-le, lastBelow-none}
+use Rattle.lists.proofs.Places.{Place, before, here, after, place}
 use Rattle.cartesian.specs.Cartesian.{Tree, leaf, node, size, tree, treeOf, distances}
 use Rattle.cartesian.proofs.HasTree.{tree-has}
 use Rattle.cartesian.proofs.Structure.{orElse, treeDistances, distances-tree, length-treeDistances}
 use Rattle.global_parents.specs.GlobalParents.{rootOf, lastLeftChild, isPrefixChild, globalParent, globalParents}
 use Rattle.global_parents.specs.Parents.{parentsFrom, parents}
-use Rattle.lists.proofs.Places.{Place, before, here, after, place}
 use Rattle.global_parents.proofs.Prefix.{treeOf-take, leftChildren, last-prefix}
-use Rattle.global_parents.proofs.Parts.{length-parentsFrom, parent-left, parent-root, parent-right, child-left, child-root, child-right, distance-left, distance-root, distance-right}
+use Rattle.global_parents.proofs.Parts.{length-parentsFrom, parent-left, parent-root, parent-right, child-left, child-root, child-right, distance-left}
+use Rattle.global_parents.proofs.Parts.{distance-root, distance-right}
 
 pub length-globalParents : (ds : List ℕ) → length (globalParents ds) ≡ length ds
 unfolding globalParents
@@ -62,11 +56,13 @@ parent-of-child : (a g j k : ℕ) (t : Tree) → j < size t → k < size t → g
 unfolding size
 parent-of-child a g j k leaf hj hk e = absurd (let z : ⊥ = omega arith in z)
 parent-of-child a g j k (node l r) hj hk e =
-    go j (place (size l) (size r) j hj) k (place (size l) (size r) k hk) e (λ i n. parent-of-child a (a + size l) i n l) (λ i n. parent-of-child (suc (a + size l)) (a + size l) i n r)
+    go j (place (size l) (size r) j hj) k (place (size l) (size r) k hk) e (λ i n. parent-of-child a (a + size l) i n l)
+    (λ i n. parent-of-child (suc (a + size l)) (a + size l) i n r)
   where
     go : (j : ℕ) → Place (size l) (size r) j → (k : ℕ) → Place (size l) (size r) k → getD (leftChildren a (node l r)) j none ≡ some (a + k)
         → ((i n : ℕ) → i < size l → n < size l → getD (leftChildren a l) i none ≡ some (a + n) → getD (parentsFrom a (a + size l) l) n 0 ≡ a + i)
-        → ((i n : ℕ) → i < size r → n < size r → getD (leftChildren (suc (a + size l)) r) i none ≡ some (suc (a + size l) + n) → getD (parentsFrom (suc (a + size l)) (a + size l) r) n 0 ≡ suc (a + size l) + i)
+        → ((i n : ℕ) → i < size r → n < size r → getD (leftChildren (suc (a + size l)) r) i none ≡ some (suc (a + size l) + n) → getD
+        (parentsFrom (suc (a + size l)) (a + size l) r) n 0 ≡ suc (a + size l) + i)
         → getD (parentsFrom a g (node l r)) k 0 ≡ a + j
     go j (before h) k (before h′) e hl hr = parent-left a g l r k h′ ∙ hl j k h h′ (rw (child-left a l r j h) at e)
     go _ here k (before h′) e hl hr = parent-left a g l r k h′ ∙ parent-rootOf a (a + size l) k l (rw (child-root a l r) at e)
@@ -96,7 +92,8 @@ parent-of-child a g j k (node l r) hj hk e =
 abbrev NoLeftChild : ℕ → Tree → ℕ → Type 0
 NoLeftChild a t k = (j : ℕ) → j < size t → getD (leftChildren a t) j none ≡ some (a + k) → ⊥
 
--- place k is the root, with the distance 0 and the parent g, or its parent is before it at its distance
+-- place k is the root, with the distance 0 and the parent g, or its parent is before it at its
+-- distance
 abbrev RootOrBefore : ℕ → ℕ → Tree → ℕ → Type 0
 RootOrBefore a g t k =
     ((rootOf a t ≡ some (a + k)) × (getD (treeDistances t) k 0 ≡ 0) × (getD (parentsFrom a g t) k 0 ≡ g))
@@ -118,7 +115,8 @@ parent-of-other a g k (node l r) h f =
         let q : getD (parentsFrom a g (node l r)) (size l + suc k) 0 ≡ a + size l = parent-right a g l r k ∙ p .2 in
         inr (rw (d, q) (omega arith, omega arith))
     right k h (inr p) =
-        let d : getD (treeDistances (node l r)) (size l + suc k) 0 ≡ getD (treeDistances r) k 0 = distance-right l r k h ∙ positive (getD (treeDistances r) k 0) (suc k) (p .0) in
+        let d : getD (treeDistances (node l r)) (size l + suc k) 0 ≡ getD (treeDistances r) k 0 =
+        distance-right l r k h ∙ positive (getD (treeDistances r) k 0) (suc k) (p .0) in
         inr (rw (d, parent-right a g l r k) (p .0, p .1 ∙ (omega arith)))
       where
         positive : (d b : ℕ) → 0 < d → orElse d b ≡ d

@@ -1,16 +1,11 @@
--- The left children, the distances and the parents of a node, part by part: at a place on its left, at its root, at a place on its right.
-use mathlib.Core.Path.{_≡_, refl, _∙_, ap, ap₂}
-use mathlib.Core.List.{_∷_}
-use mathlib.Core.Option.{none}
-use Prim.Native.Nat.{ℕ, suc, _+_, _<_}
-use native.Mathlib.Omega.{arith}
-use lib.ListN.{length, getD, length-append}
-use lib.Seq.{getD-at}
+-- The left children, the distances and the parents of a node, part by part: at a place on its left,
+-- at its root, at a place on its right.
+use Rattle.lists.proofs.Prelude.{_≡_, _∙_, ap, refl, ap₂, none, _∷_, ℕ, suc, _+_, _<_, length, getD, length-append, getD-at, arith}
+use Rattle.lists.proofs.Places.{getD-before, getD-after}
 use Rattle.cartesian.specs.Cartesian.{Tree, leaf, node, size}
 use Rattle.cartesian.proofs.Structure.{orElse, lift, treeDistances, length-treeDistances, getD-lift}
 use Rattle.global_parents.specs.GlobalParents.{rootOf}
 use Rattle.global_parents.specs.Parents.{parentsFrom}
-use Rattle.lists.proofs.Places.{getD-before, getD-after}
 use Rattle.global_parents.proofs.Prefix.{leftChildren, length-leftChildren}
 
 pub length-parentsFrom : (a g : ℕ) (t : Tree) → length (parentsFrom a g t) ≡ size t
@@ -23,15 +18,18 @@ length-parentsFrom a g (node l r) =
 -- the three parts of the parents of a node
 pub parent-left : (a g : ℕ) (l r : Tree) (k : ℕ) → k < size l → getD (parentsFrom a g (node l r)) k 0 ≡ getD (parentsFrom a (a + size l) l) k 0
 unfolding parentsFrom
-parent-left a g l r k h = getD-before (parentsFrom a (a + size l) l) g (parentsFrom (suc (a + size l)) (a + size l) r) 0 (size l) k (length-parentsFrom a (a + size l) l) h
+parent-left a g l r k h =
+    getD-before (parentsFrom a (a + size l) l) g (parentsFrom (suc (a + size l)) (a + size l) r) 0 (size l) k (length-parentsFrom a (a + size l) l) h
 
 pub parent-root : (a g : ℕ) (l r : Tree) → getD (parentsFrom a g (node l r)) (size l) 0 ≡ g
 unfolding parentsFrom
 parent-root a g l r = getD-at (parentsFrom a (a + size l) l) g (parentsFrom (suc (a + size l)) (a + size l) r) 0 (size l) (length-parentsFrom a (a + size l) l)
 
-pub parent-right : (a g : ℕ) (l r : Tree) (k : ℕ) → getD (parentsFrom a g (node l r)) (size l + suc k) 0 ≡ getD (parentsFrom (suc (a + size l)) (a + size l) r) k 0
+pub parent-right : (a g : ℕ) (l r : Tree) (k : ℕ)
+    → getD (parentsFrom a g (node l r)) (size l + suc k) 0 ≡ getD (parentsFrom (suc (a + size l)) (a + size l) r) k 0
 unfolding parentsFrom
-parent-right a g l r k = getD-after (parentsFrom a (a + size l) l) g (parentsFrom (suc (a + size l)) (a + size l) r) 0 (size l) k (length-parentsFrom a (a + size l) l)
+parent-right a g l r k =
+    getD-after (parentsFrom a (a + size l) l) g (parentsFrom (suc (a + size l)) (a + size l) r) 0 (size l) k (length-parentsFrom a (a + size l) l)
 
 -- the three parts of the left children of a node
 pub child-left : (a : ℕ) (l r : Tree) (k : ℕ) → k < size l → getD (leftChildren a (node l r)) k none ≡ getD (leftChildren a l) k none

@@ -1,18 +1,12 @@
--- THE LAW OF THE CHECK: the values of a window pass the comparisons with their global parents exactly if the window has the tree that the distances stand for.
--- That a left child is above its parent and a right child not below it makes, by transitivity, all before a root above it and all after it not below it.
-use mathlib.Core.Path.{_≡_, refl, sym, _∙_, ap, subst}
-use mathlib.Core.Bool.{Bool}
-use mathlib.Core.Logic.{_↔_}
-use mathlib.Core.List.{List, [], _∷_, _++_}
-use Prim.Native.Nat.{ℕ, suc, _+_, _≤_, _<_}
-use native.Mathlib.Omega.{arith}
-use native.Mathlib.Nat.{le-refl}
-use lib.Dec.{T}
-use lib.IntN.{ℤ, pos}
-use lib.Signed.{_≤ℤ_, _<ℤ_, ≤ℤ-refl, <ℤ-≤ℤ-trans}
-use lib.ListN.{length, getD, length-append}
-use lib.Seq.{getD-at}
+-- THE LAW OF THE CHECK: the values of a window pass the comparisons with their global parents
+-- exactly if the window has the tree that the distances stand for. That a left child is above its
+-- parent and a right child not below it makes, by transitivity, all before a root above it and all
+-- after it not below it.
+use Rattle.lists.proofs.Prelude.{_≡_, _∙_, ap, sym, refl, subst, _↔_, Bool, List, [], _∷_, _++_, ℕ, suc, _+_, _≤_, _<_, ℤ, pos, _≤ℤ_, _<ℤ_, ≤ℤ-refl}
+use Rattle.lists.proofs.Prelude.{<ℤ-≤ℤ-trans, T, length, getD, length-append, getD-at, le-refl, arith}
 use Rattle.lists.proofs.Order.{≤ℤ-trans}
+use Rattle.lists.proofs.Places.{Place, before, here, after, place, getD-before, getD-after, split-length}
+use Rattle.lists.proofs.Members.{all-below, below-all}
 use Rattle.cartesian.specs.Cartesian.{Tree, leaf, node, size, tree, distances}
 use Rattle.cartesian.proofs.HasTree.{Over, HasTree, empty, root, tree-has, over-at, over-get}
 use Rattle.cartesian.proofs.Seek.{length-distances}
@@ -21,7 +15,6 @@ use Rattle.cartesian.proofs.Injective.{treeDistances-injective}
 use Rattle.global_parents.specs.GlobalParents.{globalParent}
 use Rattle.global_parents.specs.Passes.{passesAt, passes}
 use Rattle.global_parents.specs.Parents.{parentsFrom, parents}
-use Rattle.lists.proofs.Places.{Place, before, here, after, place, getD-before, getD-after, split-length, all-below, below-all}
 use Rattle.global_parents.proofs.Parts.{parent-left, parent-root, parent-right}
 use Rattle.global_parents.proofs.Parents.{globalParent-tree}
 use Rattle.global_parents.proofs.Comparison.{value, passes-not-above, passes-below, below-passes, not-above-passes}
@@ -44,7 +37,8 @@ passing-right ws a g l r p k h =
     let e : suc (a + size l) + k ≡ a + (size l + suc k) = omega arith in
     rw e (rw (parent-right a g l r k) at (p (size l + suc k) (omega arith)))
 
-passing-node : (ws : List ℤ) (a g : ℕ) (l r : Tree) → Passing ws a (a + size l) l → T (passesAt ws g (a + size l)) → Passing ws (suc (a + size l)) (a + size l) r → Passing ws a g (node l r)
+passing-node : (ws : List ℤ) (a g : ℕ) (l r : Tree) → Passing ws a (a + size l) l → T (passesAt ws g (a + size l))
+    → Passing ws (suc (a + size l)) (a + size l) r → Passing ws a g (node l r)
 unfolding size
 passing-node ws a g l r pl p pr k h = go k (place (size l) (size r) k h)
   where
@@ -66,7 +60,8 @@ root-among ws a g leaf f = tt
 root-among ws a g (node l r) f = f (size l) (omega arith)
 
 -- no value of a node is below its root, if none on its left or right is
-root-lowest : (ws : List ℤ) (a n m : ℕ) → ((k : ℕ) → k < n → value ws (a + n) ≤ℤ value ws (a + k)) → ((k : ℕ) → k < m → value ws (a + n) ≤ℤ value ws (suc (a + n) + k)) → (k : ℕ) → k < n + suc m → value ws (a + n) ≤ℤ value ws (a + k)
+root-lowest : (ws : List ℤ) (a n m : ℕ) → ((k : ℕ) → k < n → value ws (a + n) ≤ℤ value ws (a + k))
+    → ((k : ℕ) → k < m → value ws (a + n) ≤ℤ value ws (suc (a + n) + k)) → (k : ℕ) → k < n + suc m → value ws (a + n) ≤ℤ value ws (a + k)
 root-lowest ws a n m hl hr k h = go k (place n m k h)
   where
     go : (k : ℕ) → Place n m k → value ws (a + n) ≤ℤ value ws (a + k)
@@ -82,7 +77,8 @@ unfolding size
 passing-not-below ws a g leaf p k h = absurd (let z : ⊥ = omega arith in z)
 passing-not-below ws a g (node l r) p k h =
     ≤ℤ-trans (passes-not-above ws g (a + size l) (passing-root ws a g l r p))
-    (root-lowest ws a (size l) (size r) (passing-not-below ws a (a + size l) l (passing-left ws a g l r p)) (passing-not-below ws (suc (a + size l)) (a + size l) r (passing-right ws a g l r p)) k h)
+    (root-lowest ws a (size l) (size r) (passing-not-below ws a (a + size l) l (passing-left ws a g l r p))
+    (passing-not-below ws (suc (a + size l)) (a + size l) r (passing-right ws a g l r p)) k h)
 
 -- and all are above it where the parent is to the right of them
 passing-above : (ws : List ℤ) (a g : ℕ) (t : Tree) → Passing ws a g t → a + size t ≤ g → (k : ℕ) → k < size t → value ws g <ℤ value ws (a + k)
@@ -90,7 +86,8 @@ unfolding size
 passing-above ws a g leaf p q k h = absurd (let z : ⊥ = omega arith in z)
 passing-above ws a g (node l r) p q k h =
     <ℤ-≤ℤ-trans (passes-below ws g (a + size l) (omega arith) (passing-root ws a g l r p))
-    (root-lowest ws a (size l) (size r) (passing-not-below ws a (a + size l) l (passing-left ws a g l r p)) (passing-not-below ws (suc (a + size l)) (a + size l) r (passing-right ws a g l r p)) k h)
+    (root-lowest ws a (size l) (size r) (passing-not-below ws a (a + size l) l (passing-left ws a g l r p))
+    (passing-not-below ws (suc (a + size l)) (a + size l) r (passing-right ws a g l r p)) k h)
 
 -- us stand in ws from place a on
 abbrev Reads : List ℤ → ℕ → List ℤ → Type 0
@@ -109,10 +106,12 @@ reads-right ws a n l r x e f k h =
 
 -- ---- values that pass have the tree
 
-over-left : (ws : List ℤ) (a g : ℕ) (l : List ℤ) (x : ℤ) (t : Tree) → length l ≡ size t → Reads ws a l → value ws g ≡ x → a + size t ≤ g → Passing ws a g t → Over (λ y. x <ℤ y) l
+over-left : (ws : List ℤ) (a g : ℕ) (l : List ℤ) (x : ℤ) (t : Tree) → length l ≡ size t → Reads ws a l → value ws g ≡ x → a + size t ≤ g
+    → Passing ws a g t → Over (λ y. x <ℤ y) l
 over-left ws a g l x t e f q h p = over-at (λ y. x <ℤ y) l (λ j k. rw (q, f j k) at (passing-above ws a g t p h j (omega arith)))
 
-over-right : (ws : List ℤ) (a g : ℕ) (r : List ℤ) (x : ℤ) (t : Tree) → length r ≡ size t → Reads ws a r → value ws g ≡ x → Passing ws a g t → Over (λ y. x ≤ℤ y) r
+over-right : (ws : List ℤ) (a g : ℕ) (r : List ℤ) (x : ℤ) (t : Tree) → length r ≡ size t → Reads ws a r → value ws g ≡ x → Passing ws a g t
+    → Over (λ y. x ≤ℤ y) r
 over-right ws a g r x t e f q p = over-at (λ y. x ≤ℤ y) r (λ j k. rw (q, f j k) at (passing-not-below ws a g t p j (omega arith)))
 
 passing-has : (ws : List ℤ) (a g : ℕ) (us : List ℤ) (t : Tree) → length us ≡ size t → Reads ws a us → Passing ws a g t → HasTree us t
@@ -131,7 +130,8 @@ passing-has ws a g us (node tl tr) e f p =
     let pl = passing-left ws a g tl tr p in
     let pr = passing-right ws a g tl tr p in
     rw (s .5)
-    (root l r x (over-left ws a (a + size tl) l x tl (s .3) fl q (le-refl (a + size tl)) pl) (over-right ws (suc (a + size tl)) (a + size tl) r x tr (s .4) fr q pr)
+    (root l r x (over-left ws a (a + size tl) l x tl (s .3) fl q (le-refl (a + size tl)) pl)
+    (over-right ws (suc (a + size tl)) (a + size tl) r x tr (s .4) fr q pr)
     (passing-has ws a (a + size tl) l tl (s .3) fl pl) (passing-has ws (suc (a + size tl)) (a + size tl) r tr (s .4) fr pr))
 
 -- ---- values that have the tree pass
@@ -140,7 +140,8 @@ length-has : {us : List ℤ} {t : Tree} → HasTree us t → length us ≡ size 
 length-has {us} {t} h = sym (length-distances us) ∙ ap length (distances-tree h) ∙ length-treeDistances t
 
 -- all values of a node pass the comparison with its root
-root-passes : (ws : List ℤ) (a n m : ℕ) (l r : List ℤ) (x : ℤ) → length l ≡ n → length r ≡ m → Reads ws a (l ++ (x ∷ r)) → Over (λ y. x <ℤ y) l → Over (λ y. x ≤ℤ y) r
+root-passes : (ws : List ℤ) (a n m : ℕ) (l r : List ℤ) (x : ℤ) → length l ≡ n → length r ≡ m → Reads ws a (l ++ (x ∷ r)) → Over (λ y. x <ℤ y) l
+    → Over (λ y. x ≤ℤ y) r
     → (k : ℕ) → Place n m k → T (passesAt ws (a + n) (a + k))
 root-passes ws a n m l r x e d f hl hr k (before h) =
     let q : value ws (a + n) ≡ x = reads-root ws a n l r x e f in

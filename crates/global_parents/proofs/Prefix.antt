@@ -1,21 +1,12 @@
 -- The tree over the first places of a tree: its distances are the first distances,
 -- and the left child of its last place is the left child that this place has in the whole tree.
-use mathlib.Core.Path.{_≡_, refl, sym, _∙_, ap, ap₂}
-use mathlib.Core.Bool.{cond}
-use mathlib.Core.List.{List, [], _∷_, _++_}
-use mathlib.Core.Option.{Option, none}
-use Prim.Native.Nat.{ℕ, zero, suc, _+_, _-_, _≤_, _<_, min}
-use native.Mathlib.Omega.{arith}
-use native.Mathlib.Decide.{decLt}
-use borrow.Author.Tests.{le-leb, lt-leb}
-use lib.Dec.{leb}
-use lib.ListN.{length, getD, take, length-append, length-take}
-use lib.Seq.{take-nil, take-append-le, take-append-add, getD-at}
+use Rattle.lists.proofs.Prelude.{_≡_, _∙_, ap, sym, refl, ap₂, cond, Option, none, List, [], _∷_, _++_, ℕ, zero, suc, min, _+_, _-_, _≤_, _<_, leb, length}
+use Rattle.lists.proofs.Prelude.{getD, take, length-append, length-take, getD-at, take-append-le, take-nil, take-append-add, decLt, arith, le-leb, lt-leb}
+use Rattle.lists.proofs.Places.{Place, before, here, after, place, getD-before, getD-after}
 use Rattle.cartesian.specs.Cartesian.{Tree, leaf, node, size, treeOf}
 use Rattle.cartesian.proofs.Structure.{lift, treeDistances, length-treeDistances}
 use Rattle.cartesian.proofs.TreeOf.{treeOf-treeDistances}
 use Rattle.global_parents.specs.GlobalParents.{rootOf, lastLeftChild}
-use Rattle.lists.proofs.Places.{Place, before, here, after, place, getD-before, getD-after}
 
 take-lift : (n k : ℕ) (ds : List ℕ) → take n (lift k ds) ≡ lift k (take n ds)
 unfolding lift
@@ -43,7 +34,8 @@ unfolding treeDistances prefixTree
 take-treeDistances n leaf = take-nil n
 take-treeDistances n (node l r) = go (decLt (size l) n) (take-treeDistances n l) (take-treeDistances (n - suc (size l)) r)
   where
-    go : Dec (size l < n) → take n (treeDistances l) ≡ treeDistances (prefixTree n l) → take (n - suc (size l)) (treeDistances r) ≡ treeDistances (prefixTree (n - suc (size l)) r)
+    go : Dec (size l < n) → take n (treeDistances l) ≡ treeDistances (prefixTree n l)
+        → take (n - suc (size l)) (treeDistances r) ≡ treeDistances (prefixTree (n - suc (size l)) r)
         → take n (treeDistances l ++ (0 ∷ lift 1 (treeDistances r))) ≡ treeDistances (prefixTree n (node l r))
     go (no f) hl hr =
         rw (prefix-left n l r (omega arith))
@@ -83,7 +75,11 @@ prefix-none (node l r) = prefix-left 0 l r (omega arith) ∙ prefix-none l
 -- a prefix with a place is no leaf
 prefix-some : (k : ℕ) (t : Tree) → k < size t → 0 < size (prefixTree (suc k) t)
 prefix-some k t h =
-    let e : size (prefixTree (suc k) t) ≡ min (suc k) (size t) = sym (length-treeDistances (prefixTree (suc k) t)) ∙ ap length (sym (take-treeDistances (suc k) t)) ∙ length-take (suc k) (treeDistances t) ∙ ap (min (suc k)) (length-treeDistances t) in
+    let e : size (prefixTree (suc k) t) ≡ min (suc k) (size t) =
+    sym (length-treeDistances (prefixTree (suc k) t))
+    ∙ ap length (sym (take-treeDistances (suc k) t))
+    ∙ length-take (suc k) (treeDistances t)
+    ∙ ap (min (suc k)) (length-treeDistances t) in
     omega arith
 
 last-right : (a : ℕ) (l u : Tree) → 0 < size u → lastLeftChild a (node l u) ≡ lastLeftChild (suc (a + size l)) u
@@ -101,10 +97,19 @@ last-prefix a j (node l r) h = go j (place (size l) (size r) j h) (λ k. last-pr
         → ((k : ℕ) → k < size r → lastLeftChild (suc (a + size l)) (prefixTree (suc k) r) ≡ getD (leftChildren (suc (a + size l)) r) k none)
         → lastLeftChild a (prefixTree (suc j) (node l r)) ≡ getD (leftChildren a l ++ (rootOf a l ∷ leftChildren (suc (a + size l)) r)) j none
     go j (before h) hl hr =
-        rw (prefix-left (suc j) l r h, getD-before (leftChildren a l) (rootOf a l) (leftChildren (suc (a + size l)) r) none (size l) j (length-leftChildren a l) h) (hl j h)
+        let left = getD-before (leftChildren a l) (rootOf a l) (leftChildren (suc (a + size l)) r) none (size l) j (length-leftChildren a l) h in
+        rw (prefix-left (suc j) l r h, left) (hl j h)
     go _ here hl hr =
         let e : suc (size l) ≡ size l + 1 = omega arith in
-        rw (e, prefix-right 0 l r, prefix-none r) (sym (getD-at (leftChildren a l) (rootOf a l) (leftChildren (suc (a + size l)) r) none (size l) (length-leftChildren a l)))
+        rw (e, prefix-right 0 l r, prefix-none r)
+        (sym (getD-at (leftChildren a l) (rootOf a l) (leftChildren (suc (a + size l)) r) none (size l) (length-leftChildren a l)))
     go _ (after k h) hl hr =
         let e : suc (size l + suc k) ≡ size l + suc (suc k) = omega arith in
-        rw (e, prefix-right (suc k) l r, last-right a l (prefixTree (suc k) r) (prefix-some k r h), getD-after (leftChildren a l) (rootOf a l) (leftChildren (suc (a + size l)) r) none (size l) k (length-leftChildren a l)) (hr k h)
+        rw (
+          e,
+          prefix-right (suc k) l r,
+          last-right a l (prefixTree (suc k) r) (prefix-some k r h),
+          getD-after (leftChildren a l) (rootOf a l)
+              (leftChildren (suc (a + size l)) r) none (size l) k (length-leftChildren a l),
+        )
+        (hr k h)

@@ -1,8 +1,11 @@
--- The check of a window by global parents. Document 01 (and 000): A window has the shape exactly if at each i the reading at the global parent is below that at i, or equal to it with the parent not to the right of i.
+-- The check of a window by global parents. Document 01 (and 000): A window has the shape exactly if
+-- at each i the reading at the global parent is below that at i, or equal to it with the parent not
+-- to the right of i.
 use Rattle.lists.specs.Prelude.{Bool, _&&_, _||_, List, ℕ, leb, ℤ, pos, leZ, ltZ, length, getD, tabulate, all}
 use Rattle.global_parents.specs.GlobalParents.{globalParent}
 
--- is the value at the global parent g below the value at i, or equal to it with the parent not to the right of i
+-- is the value at the global parent g below the value at i, or equal to it with the parent not to
+-- the right of i
 unfoldable pub passesAt : List ℤ → ℕ → ℕ → Bool
 passesAt xs g i =
     let a = getD xs g (pos 0) in

@@ -1,12 +1,12 @@
 // The stream search, call by call over one hit array, and the printing of its hits.
-ghost use Prim.Native.Nat.{_≤_};
-ghost use lib.ListN.{length};
+ghost use Rattle.lists.specs.Prelude.{_≤_, length};
 use crate::printing;
 use answers::SearchState;
 use hits_calls::calls;
 use hits_calls::preparing;
 
-// Prints what a call told, behind the header where it is the first one, and the attempts of all calls behind the last; is more to be printed.
+// Prints what a call told, behind the header where it is the first one, and the attempts of all
+// calls behind the last; is more to be printed.
 fn print_told(
     refused: u32,
     first: bool,
@@ -37,7 +37,7 @@ fn make_calls(set: &[u32], automaton: &[u32], text: &[i32], hits: &mut [u32], ou
     let mut attempts: u64 = 0;
     let mut turns: u32 = 0;
     while turns < 40000 {
-        let from = preparing::smaller(preparing::wide(state.taken), text.len());
+        let from = preparing::smaller(casts::wide(state.taken), text.len());
         let s = calls::make_call(set, automaton, state, &text[from..], hits, out);
         attempts = std::num::wrapping_add_u64(attempts, s.attempts);
         if !print_told(s.refused, turns == 0, s.more, attempts, out, s.bytes) {

@@ -1,30 +1,23 @@
--- The hits of an accepted call, read off the array that was lent: their words lie at its front, and their numbers are those of patterns.
-use mathlib.Core.Path.{_≡_, refl, sym, _∙_, ap, ap₂, subst}
-use mathlib.Core.Bool.{Bool, true, false, cond, not}
-use mathlib.Core.Logic.{_⊎_, inl, inr}
-use mathlib.Core.List.{List, [], _∷_, _++_, map, flatten, append-assoc, List·Memᴰ, List·Memᴰ·not-nil, List·Memᴰ·append-cases}
-use Prim.Native.Nat.{ℕ, zero, suc, _+_, _*_, _-_, _/_, _≤_, _<_, min}
-use native.Mathlib.Omega.{arith}
-use lib.Dec.{ltb}
-use lib.IntN.{ℤ}
-use lib.ListN.{length, getD, take, drop, length-append, length-drop}
-use lib.Seq.{length-take-le}
-use Rattle.lists.proofs.Select.{mem-select, mem-below, getD-mem}
-use Rattle.lists.specs.Prelude.{tabulate, same, begins}
-use Rattle.lists.proofs.Members.{mem-map}
+-- The hits of an accepted call, read off the array that was lent: their words lie at its front, and
+-- their numbers are those of patterns.
+use Rattle.lists.proofs.Prelude.{_≡_, _∙_, ap, sym, refl, subst, ap₂, inl, inr, _⊎_, Bool, true, false, cond, not, List, [], _∷_, _++_, map, List·Memᴰ}
+use Rattle.lists.proofs.Prelude.{append-assoc, List·Memᴰ·not-nil, List·Memᴰ·append-cases, flatten, ℕ, zero, suc, min, _+_, _-_, _*_, _/_, _≤_, _<_, ℤ, ltb}
+use Rattle.lists.proofs.Prelude.{length, getD, take, drop, length-append, length-drop, length-take-le, arith, begins, tabulate, same, not-false}
+use Rattle.lists.proofs.Select.{mem-select}
+use Rattle.lists.proofs.Members.{mem-below, getD-mem, mem-map}
 use Rattle.answers.specs.declared.SearchState.{SearchState}
-use Rattle.pattern_set.specs.PatternSet.{PatternSet, readSet}
+use Rattle.pattern_set.specs.PatternSet.{PatternSet, patternsOf, isSet, IsSet}
 use Rattle.matching.specs.Matching.{hitWords, chain}
 use Rattle.matching.proofs.HitWords.{length-hitWords}
-use Rattle.model.specs.Refusals.{firstMet, unless, told, after}
-use Rattle.model.specs.Entries.{isBroken, setOf, isUnsearchable, Counts, streamConditions, streamCall, streamEntry, streamState}
-use Rattle.model.specs.Automaton.{headOf, automatonWords}
-use Rattle.model.specs.Search.{goodState, distanceOf, advance, endingAt, listed, stop, andThen, feed, step, call}
-use Rattle.model.proofs.Refusals.{first-unmet}
+use Rattle.entries.specs.Entries.{Conditions, firstMet, unless, told, after, isUnsearchable, Counts, streamConditions, streamEntry, streamState}
+use Rattle.automaton_model.specs.Automaton.{headOf, automatonWords, advance, endingAt, listed}
+use Rattle.search_model.specs.Search.{goodState, feed, step, call, stop, andThen, ringOf}
+use Rattle.search_model.specs.Ring.{distanceOf}
+use Rattle.entries.proofs.Refusals.{first-unmet}
 use Rattle.hits_output.specs.Output.{hitLines, hitsIn}
 use Rattle.hits_output.proofs.Words.{hit-in-words, hits-in-words}
 use Rattle.hits_calls.specs.declared.calls.Step.{Step}
-use Rattle.hits_calls.specs.Called.{lent, tells, batch, summed, summary, IsCalled}
+use Rattle.hits_calls.specs.Called.{streamCall, lent, tells, batch, summed, summary, IsCalled}
 
 -- ---- the numbers of hits are those of patterns
 
@@ -33,7 +26,8 @@ unfolding flatten
 ending-below ps j [] m = absurd (List·Memᴰ·not-nil m)
 ending-below ps j (g ∷ gs) m = one (ending-below ps j gs) (List·Memᴰ·append-cases (endingAt ps g) m)
   where
-    one : (List·Memᴰ j (flatten (map (endingAt ps) gs)) → j < length ps) → List·Memᴰ j (endingAt ps g) ⊎ List·Memᴰ j (flatten (map (endingAt ps) gs)) → j < length ps
+    one : (List·Memᴰ j (flatten (map (endingAt ps) gs)) → j < length ps) → List·Memᴰ j (endingAt ps g) ⊎ List·Memᴰ j (flatten (map (endingAt ps) gs))
+        → j < length ps
     one ih (inl n) = mem-below (length ps) j .0 (mem-select (λ i. same (getD ps i []) g) (tabulate (length ps) (λ i. i)) j .0 n .0)
     one ih (inr n) = ih n
 
@@ -44,7 +38,7 @@ listed-below ps h j m = ending-below ps j (chain ps h) m
 step-below : (ps : PatternSet) (st : SearchState) (x : ℤ) (h : ℕ × ℕ) → List·Memᴰ h (step ps st x .hits) → h .1 < length ps
 unfolding step
 step-below ps st x h m =
-    let g = advance ps (headOf ps (st .node)) (distanceOf st x) .0 in
+    let g = advance ps (headOf ps (st .node)) (distanceOf (st .taken) (ringOf st) x) .0 in
     let r = mem-map (λ j. (st .taken, j)) (listed ps g) h .0 m in
     subst (λ (k : ℕ). k < length ps) (sym (ap (λ (z : ℕ × ℕ). z .1) (r .2))) (listed-below ps g (r .0) (r .1))
 
@@ -60,34 +54,44 @@ call-below ps (x ∷ xs) st free h m = go (ltb free (2 * length ps)) (call-below
     one ih (inl n) = step-below ps st x h n
     one ih (inr n) = ih n
 
-    go : (b : Bool) → (List·Memᴰ h rest → h .1 < length ps) → List·Memᴰ h (cond b (stop st 0) (andThen (step ps st x) (call ps (step ps st x .state) (free - 2 * length (step ps st x .hits)) xs)) .hits) → h .1 < length ps
+    go : (b : Bool) → (List·Memᴰ h rest → h .1 < length ps)
+        → List·Memᴰ h (cond b (stop st 0) (andThen (step ps st x) (call ps (step ps st x .state) (free - 2 * length (step ps st x .hits)) xs)) .hits)
+        → h .1 < length ps
     go true ih m = absurd (List·Memᴰ·not-nil m)
     go false ih m = one ih (List·Memᴰ·append-cases (step ps st x .hits) m)
 
 -- ---- an accepted call
 
-module _ (ws au : List ℕ) (st : SearchState) (xs : List ℤ) (lent : List ℕ) (part : List ℕ) (e : firstMet (streamConditions ws au st xs lent) ≡ 0) (w : part ≡ after (streamEntry ws au st xs lent) lent) (same : length part ≡ length lent) where
+module _ (ws au : List ℕ) (st : SearchState) (xs : List ℤ) (lent : List ℕ) (part : List ℕ) (e : firstMet (streamConditions ws au st xs lent) ≡ 0)
+    (w : part ≡ after (streamEntry ws au st xs lent) lent) (same : length part ≡ length lent) where
   found : List (ℕ × ℕ)
   found = streamCall ws st xs lent .hits
 
   -- the set is good
-  pub accepted-good : isBroken (readSet ws) ≡ false
+  pub accepted-good : IsSet ws
   unfolding streamConditions
   accepted-good =
-      let ps = setOf (readSet ws) in
-      let later : List (ℕ × Bool) = (7, not (begins au (automatonWords ps))) ∷ (8, not (goodState ps st)) ∷ (9, ltb 1048576 (st .taken + length xs)) ∷ (10, ltb (length lent) (2 * length ps)) ∷ [] in
-      first-unmet 4 (isBroken (readSet ws)) later (first-unmet 0 (isUnsearchable (readSet ws)) ((5, isBroken (readSet ws)) ∷ later) e .1) .0
+      let ps = patternsOf ws in
+      let later : Conditions =
+      (7, not (begins au (automatonWords ps))) ∷ (8, not (goodState ps st)) ∷ (9, ltb 1048576 (st .taken + length xs)) ∷
+      (10, ltb (length lent) (2 * length ps)) ∷ [] in
+      not-false (isSet ws) (first-unmet 4 (not (isSet ws)) later (first-unmet 0 (isUnsearchable ws) ((5, not (isSet ws)) ∷ later) e .1) .0)
 
   part-words : part ≡ hitWords found ++ drop (length (hitWords found)) lent
   unfolding found
-  part-words = w ∙ ap (λ (n : ℕ). unless n (hitWords (streamCall ws st xs lent .hits) ++ drop (length (hitWords (streamCall ws st xs lent .hits))) lent) lent) e
+  part-words =
+      w ∙ ap (λ (n : ℕ). unless n (hitWords (streamCall ws st xs lent .hits) ++ drop (length (hitWords (streamCall ws st xs lent .hits))) lent) lent) e
 
   -- the words fit
   pub words-fit : 2 * length (streamCall ws st xs lent .hits) ≤ length lent
   unfolding found
   words-fit =
       let f = streamCall ws st xs lent .hits in
-      let l : length (hitWords f) + (length lent - length (hitWords f)) ≡ length lent = ap (λ (n : ℕ). length (hitWords f) + n) (sym (length-drop (length (hitWords f)) lent)) ∙ sym (length-append (hitWords f) (drop (length (hitWords f)) lent)) ∙ sym (ap length part-words) ∙ same in
+      let l : length (hitWords f) + (length lent - length (hitWords f)) ≡ length lent =
+      ap (λ (n : ℕ). length (hitWords f) + n) (sym (length-drop (length (hitWords f)) lent))
+      ∙ sym (length-append (hitWords f) (drop (length (hitWords f)) lent))
+      ∙ sym (ap length part-words)
+      ∙ same in
       omega (arith, length-hitWords f)
 
   front : (rest : List ℕ) → part ++ rest ≡ hitWords found ++ (drop (length (hitWords found)) lent ++ rest)
@@ -96,18 +100,22 @@ module _ (ws au : List ℕ) (st : SearchState) (xs : List ℤ) (lent : List ℕ)
   -- what is read off are the hits
   pub hits-read : (rest : List ℕ) → hitsIn (part ++ rest) (length (streamCall ws st xs lent .hits)) ≡ streamCall ws st xs lent .hits
   unfolding found
-  hits-read rest = ap (λ (l : List ℕ). hitsIn l (length (streamCall ws st xs lent .hits))) (front rest) ∙ hits-in-words (streamCall ws st xs lent .hits) (drop (length (hitWords (streamCall ws st xs lent .hits))) lent ++ rest)
+  hits-read rest =
+      ap (λ (l : List ℕ). hitsIn l (length (streamCall ws st xs lent .hits))) (front rest)
+      ∙ hits-in-words (streamCall ws st xs lent .hits) (drop (length (hitWords (streamCall ws st xs lent .hits))) lent ++ rest)
 
   -- and each number is that of a pattern
-  pub numbers-below : (rest : List ℕ) (i : ℕ) → i < length (streamCall ws st xs lent .hits) → getD (part ++ rest) (2 * i + 1) 0 < length (setOf (readSet ws))
+  pub numbers-below : (rest : List ℕ) (i : ℕ) → i < length (streamCall ws st xs lent .hits) → getD (part ++ rest) (2 * i + 1) 0 < length (patternsOf ws)
   unfolding found
   numbers-below rest i h =
       let f = streamCall ws st xs lent .hits in
-      let q : getD (part ++ rest) (2 * i + 1) 0 ≡ getD f i (0, 0) .1 = ap (λ (l : List ℕ). getD l (2 * i + 1) 0) (front rest) ∙ ap (λ (z : ℕ × ℕ). z .1) (hit-in-words f (drop (length (hitWords f)) lent ++ rest) i h) in
-      subst (λ (k : ℕ). k < length (setOf (readSet ws))) (sym q) (call-below (setOf (readSet ws)) xs st (length lent) (getD f i (0, 0)) (getD-mem f i (0, 0) h))
+      let q : getD (part ++ rest) (2 * i + 1) 0 ≡ getD f i (0, 0) .1 =
+      ap (λ (l : List ℕ). getD l (2 * i + 1) 0) (front rest) ∙ ap (λ (z : ℕ × ℕ). z .1) (hit-in-words f (drop (length (hitWords f)) lent ++ rest) i h) in
+      subst (λ (k : ℕ). k < length (patternsOf ws)) (sym q) (call-below (patternsOf ws) xs st (length lent) (getD f i (0, 0)) (getD-mem f i (0, 0) h))
 
   -- the same by a number that is told
-  pub told-count : (refused : ℕ) (more : Bool) (n attempts : ℕ) → summed refused more n attempts ≡ summary (told (0, 0, 0, 0) (streamEntry ws au st xs lent)) → n ≡ length (streamCall ws st xs lent .hits)
+  pub told-count : (refused : ℕ) (more : Bool) (n attempts : ℕ)
+      → summed refused more n attempts ≡ summary (told (0, 0, 0, 0) (streamEntry ws au st xs lent)) → n ≡ length (streamCall ws st xs lent .hits)
   told-count refused more n attempts t =
       let c = streamCall ws st xs lent in
       ap (λ (z : ℕ × (Bool × ℕ × ℕ)). z .1 .1) t ∙ ap (λ (m : ℕ). unless {A = Counts} m (c .ended, c .taken, length (c .hits), c .attempts) (0, 0, 0, 0) .2) e
@@ -115,7 +123,8 @@ module _ (ws au : List ℕ) (st : SearchState) (xs : List ℤ) (lent : List ℕ)
   pub told-fit : (n : ℕ) (rest : List ℕ) → n ≡ length (streamCall ws st xs lent .hits) → 2 * n ≤ length (part ++ rest)
   told-fit n rest q = omega (arith, words-fit, same, length-append part rest)
 
-  pub told-below : (n : ℕ) (rest : List ℕ) → n ≡ length (streamCall ws st xs lent .hits) → (i : ℕ) → i < n → getD (part ++ rest) (2 * i + 1) 0 < length (setOf (readSet ws))
+  pub told-below : (n : ℕ) (rest : List ℕ) → n ≡ length (streamCall ws st xs lent .hits) → (i : ℕ) → i < n
+      → getD (part ++ rest) (2 * i + 1) 0 < length (patternsOf ws)
   told-below n rest q i h = numbers-below rest i (omega (arith, h, q))
 
   -- the lines of as many hits as the buffer has room for
@@ -127,7 +136,8 @@ module _ (ws au : List ℕ) (st : SearchState) (xs : List ℤ) (lent : List ℕ)
 drop-room : (room : ℕ) (hits : List ℕ) → room ≤ length hits → drop room hits ≡ drop (length (take room hits)) hits
 drop-room room hits h = ap (λ (n : ℕ). drop n hits) (sym (length-take-le room hits h))
 
-module _ (ws au : List ℕ) (st : SearchState) (xs : List ℤ) (hits out part after' : List ℕ) (room : ℕ) (r : Step) (q : room ≡ min (length hits) (2 * (length out / 63))) (l : room ≤ length hits)
+module _ (ws au : List ℕ) (st : SearchState) (xs : List ℤ) (hits out part after' : List ℕ) (room : ℕ) (r : Step)
+    (q : room ≡ min (length hits) (2 * (length out / 63))) (l : room ≤ length hits)
     (t : summed (r .refused) (r .more) (r .hits) (r .attempts) ≡ summary (told (0, 0, 0, 0) (streamEntry ws au st xs (take room hits))))
     (s : r .state ≡ streamState ws au st xs (take room hits))
     (w : part ≡ after (streamEntry ws au st xs (take room hits)) (take room hits)) where
@@ -137,9 +147,11 @@ module _ (ws au : List ℕ) (st : SearchState) (xs : List ℤ) (hits out part af
 
   called : IsText (batch ws au st xs (take room hits)) → IsCalled ws au st xs hits out (part ++ drop room hits) after' r
   called x = record {
-    told = t ∙ ap (λ (n : ℕ). summary (tells ws au st xs (take n hits))) q;
+    answer = t ∙ ap (λ (n : ℕ). summary (tells ws au st xs (take n hits))) q;
     state = s ∙ ap (λ (n : ℕ). streamState ws au st xs (take n hits)) q;
-    words = ap₂ (λ (a b : List ℕ). a ++ b) w (drop-room room hits l) ∙ ap (λ (n : ℕ). after (streamEntry ws au st xs (take n hits)) (take n hits) ++ drop (length (take n hits)) hits) q;
+    words =
+        ap₂ (λ (a b : List ℕ). a ++ b) w (drop-room room hits l)
+        ∙ ap (λ (n : ℕ). after (streamEntry ws au st xs (take n hits)) (take n hits) ++ drop (length (take n hits)) hits) q;
     bytes = x .0 ∙ ap (λ (n : ℕ). length (batch ws au st xs (take n hits))) q;
     text = x .1 ∙ ap (λ (n : ℕ). batch ws au st xs (take n hits) ++ drop (length (batch ws au st xs (take n hits))) out) q;
   }
@@ -148,25 +160,30 @@ module _ (ws au : List ℕ) (st : SearchState) (xs : List ℤ) (hits out part af
   refusal-is = ap (λ (z : ℕ × (Bool × ℕ × ℕ)). z .0) t
 
   -- accepted
-  pub called-accepted : r .refused ≡ 0 → length part ≡ length (take room hits) → IsText (hitLines (setOf (readSet ws)) (hitsIn (part ++ drop room hits) (r .hits))) → IsCalled ws au st xs hits out (part ++ drop room hits) after' r
+  pub called-accepted : r .refused ≡ 0 → length part ≡ length (take room hits)
+      → IsText (hitLines (patternsOf ws) (hitsIn (part ++ drop room hits) (r .hits)))
+      → IsCalled ws au st xs hits out (part ++ drop room hits) after' r
   called-accepted z same x =
       let e : firstMet (streamConditions ws au st xs (take room hits)) ≡ 0 = sym refusal-is ∙ z in
       let f = streamCall ws st xs (take room hits) .hits in
       let n : r .hits ≡ length f = told-count ws au st xs (take room hits) part e w same (r .refused) (r .more) (r .hits) (r .attempts) t in
-      let h : hitsIn (part ++ drop room hits) (r .hits) ≡ f = ap (hitsIn (part ++ drop room hits)) n ∙ hits-read ws au st xs (take room hits) part e w same (drop room hits) in
-      let b : hitLines (setOf (readSet ws)) (hitsIn (part ++ drop room hits) (r .hits)) ≡ batch ws au st xs (take room hits) = ap (hitLines (setOf (readSet ws))) h ∙ sym (ap (λ (m : ℕ). unless m (hitLines (setOf (readSet ws)) f) []) e) in
+      let h : hitsIn (part ++ drop room hits) (r .hits) ≡ f =
+      ap (hitsIn (part ++ drop room hits)) n ∙ hits-read ws au st xs (take room hits) part e w same (drop room hits) in
+      let b : hitLines (patternsOf ws) (hitsIn (part ++ drop room hits) (r .hits)) ≡ batch ws au st xs (take room hits) =
+      ap (hitLines (patternsOf ws)) h ∙ sym (ap (λ (m : ℕ). unless m (hitLines (patternsOf ws) f) []) e) in
       called (subst IsText b x)
 
   -- refused
   pub called-refused : (r .refused ≡ 0 → ⊥) → r .bytes ≡ 0 → after' ≡ out → IsCalled ws au st xs hits out (part ++ drop room hits) after' r
   called-refused z b o = called (subst IsText (sym (none (firstMet (streamConditions ws au st xs (take room hits))) (λ e. z (refusal-is ∙ e)))) (b, o))
     where
-      none : (m : ℕ) → (m ≡ 0 → ⊥) → unless m (hitLines (setOf (readSet ws)) (streamCall ws st xs (take room hits) .hits)) [] ≡ []
+      none : (m : ℕ) → (m ≡ 0 → ⊥) → unless m (hitLines (patternsOf ws) (streamCall ws st xs (take room hits) .hits)) [] ≡ []
       none zero f = absurd (f refl)
       none (suc m) f = refl
 
 -- the text lies within the buffer
-pub called-fits : (ws au : List ℕ) (st : SearchState) (xs : List ℤ) (hits out hits' after' : List ℕ) (r : Step) → IsCalled ws au st xs hits out hits' after' r → r .bytes ≤ length after'
+pub called-fits : (ws au : List ℕ) (st : SearchState) (xs : List ℤ) (hits out hits' after' : List ℕ) (r : Step)
+    → IsCalled ws au st xs hits out hits' after' r → r .bytes ≤ length after'
 called-fits ws au st xs hits out hits' after' r c =
     let text = batch ws au st xs (lent hits out) in
     omega (arith, c .bytes, ap length (c .text), length-append text (drop (length text) out))

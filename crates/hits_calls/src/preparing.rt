@@ -1,17 +1,10 @@
-// The set of the patterns and its automaton, made by the finder's entries in lent arrays. A refusal is told by its number, and 0 is none.
-ghost use mathlib.Core.Path.{_≡_};
-ghost use Prim.Native.Nat.{min, _≤_};
+// The set of the patterns and its automaton, made by the finder's entries in lent arrays. A refusal
+// is told by its number, and 0 is none.
+ghost use Rattle.lists.specs.Prelude.{_≡_, min, _≤_};
 use answers::Built;
 use answers::Refusal;
 use answers::SetSize;
 use answers::Written;
-
-// A word as a number of places.
-pub fn wide(x: u32) -> usize
-    ensures { λ r. ⌜ r ≡ x ⌝ }
-{
-    x as usize
-}
 
 // The smaller of two.
 pub fn smaller(a: usize, b: usize) -> usize
@@ -57,15 +50,15 @@ fn build(set: &[u32], automaton: &mut [u32]) -> u32
     }
 }
 
-// Adds the patterns, whose values lie one after the other and end at these places.
-fn add_all(set: &mut [u32], values: &[i32], places: &[u32]) -> u32
+// Adds the patterns: their values lie one after the other, and each ends where `ends` says.
+fn add_all(set: &mut [u32], values: &[i32], ends: &[u32]) -> u32
     ensures { λ r. ⌜ r ≤ 11 ⌝ }
 {
     let n = values.len();
     let mut from: usize = 0;
     let mut j: usize = 0;
-    while j < places.len() {
-        let end = smaller(wide(places[j]), n);
+    while j < ends.len() {
+        let end = smaller(casts::wide(ends[j]), n);
         let start = smaller(from, end);
         let refused = add(set, &values[start..end]);
         if refused > 0 {
@@ -78,14 +71,14 @@ fn add_all(set: &mut [u32], values: &[i32], places: &[u32]) -> u32
 }
 
 // Makes the set and its automaton, up to the first call that is refused.
-pub fn prepare(values: &[i32], places: &[u32], set: &mut [u32], automaton: &mut [u32]) -> u32
+pub fn prepare(values: &[i32], ends: &[u32], set: &mut [u32], automaton: &mut [u32]) -> u32
     ensures { λ r. ⌜ r ≤ 11 ⌝ }
 {
     let first = write_empty(set);
     if first > 0 {
         return first;
     }
-    let second = add_all(set, values, places);
+    let second = add_all(set, values, ends);
     if second > 0 {
         return second;
     }

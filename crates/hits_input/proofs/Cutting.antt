@@ -1,14 +1,7 @@
--- CUTTING: the parts of bytes begin with what stands before the first separator, and go on with the parts behind it.
-use mathlib.Core.Path.{_≡_, refl, _∙_, ap}
-use mathlib.Core.Bool.{Bool, true, false, cond, _&&_}
-use mathlib.Core.List.{List, [], _∷_}
-use Prim.Native.Nat.{ℕ, suc, _+_, _-_, _≤_, _<_, zero-le}
-use native.Mathlib.Numerals.{add-one}
-use native.Mathlib.Omega.{arith}
-use borrow.Author.Tests.{eq-eqb, ne-eqb}
-use lib.Dec.{eqb}
-use lib.ListN.{length, getD, take, drop, length-drop, drop-of-length-le}
-use lib.Seq.{drop-cons, drop-drop, take-all}
+-- CUTTING: the parts of bytes begin with what stands before the first separator, and go on with the
+-- parts behind it.
+use Rattle.lists.proofs.Prelude.{_≡_, _∙_, ap, refl, Bool, true, false, cond, _&&_, List, [], _∷_, ℕ, suc, _+_, _-_, _≤_, _<_, zero-le, eqb, length, getD, take}
+use Rattle.lists.proofs.Prelude.{drop, length-drop, drop-of-length-le, drop-cons, take-all, drop-drop, add-one, arith, eq-eqb, ne-eqb}
 use Rattle.hits_input.specs.Input.{parts, putFirst}
 use Rattle.hits_input.specs.Steps.{upTo}
 

@@ -1,22 +1,13 @@
--- INPUTS: the lines are read one after the other: patterns up to an empty line, then the text, which is the last line and ends.
-use mathlib.Core.Path.{_≡_, refl, sym, _∙_, ap, ap₂}
-use mathlib.Core.Bool.{Bool, true, false}
-use mathlib.Core.Option.{Option, none, some}
-use mathlib.Core.List.{List, [], _∷_, _++_, flatten, append-nil}
-use Prim.Native.Nat.{ℕ, suc, _+_, _-_, _≤_, _<_}
-use native.Mathlib.Omega.{arith}
-use native.Mathlib.Decide.{decLt}
-use native.Mathlib.Numerals.{add-one}
-use borrow.Author.Tests.{le-leb, lt-leb, eq-eqb, ne-eqb, eqb-true, eqb-false}
-use lib.Dec.{eqb}
-use lib.IntN.{ℤ}
-use lib.ListN.{length, getD, take, drop, set, length-append, length-set, length-take, length-drop, drop-of-length-le}
-use lib.Seq.{take-suc-set, drop-cons, append-snoc}
-use Rattle.lists.proofs.Lists.{length-snoc}
-use Rattle.lists.proofs.Members.{flatten-append}
+-- INPUTS: the lines are read one after the other: patterns up to an empty line, then the text,
+-- which is the last line and ends.
+use Rattle.lists.proofs.Prelude.{_≡_, _∙_, ap, sym, refl, ap₂, Bool, true, false, Option, none, some, List, [], _∷_, _++_, append-nil, flatten, ℕ, suc, _+_}
+use Rattle.lists.proofs.Prelude.{_-_, _≤_, _<_, ℤ, eqb, length, getD, take, drop, set, length-append, length-take, length-drop, length-set, drop-of-length-le}
+use Rattle.lists.proofs.Prelude.{drop-cons, append-snoc, take-suc-set, add-one, decLt, arith, eq-eqb, le-leb, ne-eqb, lt-leb, eqb-true, eqb-false}
+use Rattle.lists.proofs.Parts.{length-snoc}
+use Rattle.lists.proofs.Rows.{flatten-append}
 use Rattle.hits_input.specs.declared.Parsed.{Parsed}
 use Rattle.hits_input.specs.Input.{andThen, parts, readLine, Input, readLines, readInput}
-use Rattle.hits_input.specs.Read.{ends, IsRead}
+use Rattle.hits_input.specs.Read.{endsOf, IsRead}
 use Rattle.hits_input.specs.Steps.{upTo, Put, behind, limited, Lie, PatternsRead, TextRead}
 use Rattle.hits_input.proofs.Cutting.{parts-from, parts-last, parts-not-empty}
 use Rattle.hits_input.proofs.Lines.{line-short, line-some}
@@ -55,26 +46,32 @@ behind-snoc ps x (some i) = ap (λ (l : List (List ℤ)). some (record { pattern
 -- ---- the loop over the pattern lines
 
 -- the pattern lines before place `from` are read
-pub record Reading (bytes : List ℕ) (values : List ℤ) (places : List ℕ) (from count filled : ℕ) : Type 0 where
+pub record Reading (bytes : List ℕ) (values : List ℤ) (ends : List ℕ) (from count filled : ℕ) : Type 0 where
+  -- the place is one of the bytes, or their end
   pub within : from ≤ length bytes
+  -- the arrays have their lengths
   pub sizedValues : length values ≡ 1023
-  pub sizedPlaces : length places ≡ 1023
+  pub sizedEnds : length ends ≡ 1023
+  -- the patterns that are read, and that they lie in the arrays
   pub ps : List (List ℤ)
-  pub lie : Lie ps values places count
+  pub lie : Lie ps values ends count
+  -- `filled` is where their values end
   pub filledBy : filled ≡ length (flatten ps)
+  -- each of them has a value
   pub few : count ≤ filled
+  -- the input is these patterns and what the bytes from the place on hold
   pub rest : readLines (parts 10 bytes) ≡ behind ps (readLines (parts 10 (drop from bytes)))
 
-pub filled-le : {bytes : List ℕ} {values : List ℤ} {places : List ℕ} {from count filled : ℕ} → Reading bytes values places from count filled → filled ≤ 1023
+pub filled-le : {bytes : List ℕ} {values : List ℤ} {ends : List ℕ} {from count filled : ℕ} → Reading bytes values ends from count filled → filled ≤ 1023
 filled-le w = omega (arith, w .filledBy, w .lie .fit)
 
-pub lines-start : (bytes : List ℕ) (values : List ℤ) (places : List ℕ) → length values ≡ 1023 → length places ≡ 1023 → Reading bytes values places 0 0 0
-unfolding flatten ends
-lines-start bytes values places a b =
+pub lines-start : (bytes : List ℕ) (values : List ℤ) (ends : List ℕ) → length values ≡ 1023 → length ends ≡ 1023 → Reading bytes values ends 0 0 0
+unfolding flatten endsOf
+lines-start bytes values ends a b =
     record {
       within = omega arith;
       sizedValues = a;
-      sizedPlaces = b;
+      sizedEnds = b;
       ps = [];
       lie = record { counted = refl; fit = omega arith; lieValues = refl; lieEnds = refl };
       filledBy = refl;
@@ -83,18 +80,24 @@ lines-start bytes values places a b =
     }
 
 -- a line that does not end
-pub lines-over : (bytes : List ℕ) (values : List ℤ) (places : List ℕ) (from count filled e r : ℕ) → Reading bytes values places from count filled → e ≡ from + upTo 10 (drop from bytes) → e ≡ length bytes
-    → length bytes < r → PatternsRead bytes values places count r
-lines-over bytes values places from count filled e r w q l h =
+pub lines-over : {bytes : List ℕ} {values : List ℤ} {ends : List ℕ} {from count filled e r : ℕ} → Reading bytes values ends from count filled
+    → e ≡ from + upTo 10 (drop from bytes) → e ≡ length bytes
+    → length bytes < r → PatternsRead bytes values ends count r
+lines-over {bytes} {values} {ends} {from} {count} {filled} {e} {r} w q l h =
     record {
-      bad = λ k. ap limited (w .rest ∙ ap (λ (ls : List (List ℕ)). behind (w .ps) (readLines ls)) (parts-last 10 bytes from e (w .within) q (omega arith)) ∙ ap (behind (w .ps)) (last-line (between from e bytes)));
+      bad =
+          λ k. ap limited
+          (w .rest
+          ∙ ap (λ (ls : List (List ℕ)). behind (w .ps) (readLines ls)) (parts-last 10 bytes from e (w .within) q (omega arith))
+          ∙ ap (behind (w .ps)) (last-line (between from e bytes)));
       good = λ k. absurd (let z : ⊥ = omega arith in z);
     }
 
 -- an empty line
-pub lines-empty : (bytes : List ℕ) (values : List ℤ) (places : List ℕ) (from count filled e : ℕ) → Reading bytes values places from count filled → e ≡ from + upTo 10 (drop from bytes) → e < length bytes
-    → e ≡ from → PatternsRead bytes values places count (e + 1)
-lines-empty bytes values places from count filled e w q l h =
+pub lines-empty : {bytes : List ℕ} {values : List ℤ} {ends : List ℕ} {from count filled e : ℕ} → Reading bytes values ends from count filled
+    → e ≡ from + upTo 10 (drop from bytes) → e < length bytes
+    → e ≡ from → PatternsRead bytes values ends count (e + 1)
+lines-empty {bytes} {values} {ends} {from} {count} {filled} {e} w q l h =
     let n : e - from ≡ 0 = omega arith in
     let s : parts 10 (drop from bytes) ≡ [] ∷ parts 10 (drop (e + 1) bytes) =
     parts-from 10 bytes from e (w .within) q l ∙ ap (λ (k : ℕ). take k (drop from bytes) ∷ parts 10 (drop (e + 1) bytes)) n in
@@ -104,27 +107,31 @@ lines-empty bytes values places from count filled e w q l h =
     }
 
 -- the line from a place on, taken off the lines left
-line-off : (bytes : List ℕ) (values : List ℤ) (places : List ℕ) (from count filled e : ℕ) (w : Reading bytes values places from count filled) → e ≡ from + upTo 10 (drop from bytes) → e < length bytes → from < e
+line-off : {bytes : List ℕ} {values : List ℤ} {ends : List ℕ} {from count filled e : ℕ} (w : Reading bytes values ends from count filled)
+    → e ≡ from + upTo 10 (drop from bytes) → e < length bytes → from < e
     → readLines (parts 10 bytes) ≡ behind (w .ps) (andThen (readLine (between from e bytes)) (λ x. behind (x ∷ []) (readLines (parts 10 (drop (e + 1) bytes)))))
-line-off bytes values places from count filled e w q l h =
+line-off {bytes} {values} {ends} {from} {count} {filled} {e} w q l h =
     w .rest
     ∙ ap (λ (ls : List (List ℕ)). behind (w .ps) (readLines ls)) (parts-from 10 bytes from e (w .within) q l)
-    ∙ ap (behind (w .ps)) (line-step (between from e bytes) (parts 10 (drop (e + 1) bytes)) (omega (arith, length-between from e bytes (omega arith) (omega arith))))
+    ∙ ap (behind (w .ps))
+    (line-step (between from e bytes) (parts 10 (drop (e + 1) bytes)) (omega (arith, length-between from e bytes (omega arith) (omega arith))))
 
 -- a line that is bad or has no room
-pub lines-bad : (bytes : List ℕ) (values : List ℤ) (places : List ℕ) (from count filled e f r : ℕ) (after : List ℤ) → Reading bytes values places from count filled → e ≡ from + upTo 10 (drop from bytes) → e < length bytes → from < e
-    → Put (readLine (between from e bytes)) filled values after f → 1023 < f → length bytes < r → PatternsRead bytes after places count r
+pub lines-bad : {bytes : List ℕ} {values : List ℤ} {ends : List ℕ} {from count filled e f r : ℕ} {after : List ℤ}
+    → Reading bytes values ends from count filled → e ≡ from + upTo 10 (drop from bytes) → e < length bytes → from < e
+    → Put (readLine (between from e bytes)) filled values after f → 1023 < f → length bytes < r → PatternsRead bytes after ends count r
 unfolding flatten
-lines-bad bytes values places from count filled e f r after w q l h p t k =
+lines-bad {bytes} {values} {ends} {from} {count} {filled} {e} {f} {r} {after} w q l h p t k =
     record {
-      bad = λ z. ap limited (line-off bytes values places from count filled e w q l h) ∙ go (readLine (between from e bytes)) refl (readLines (parts 10 (drop (e + 1) bytes)));
+      bad = λ z. ap limited (line-off w q l h) ∙ go (readLine (between from e bytes)) refl (readLines (parts 10 (drop (e + 1) bytes)));
       good = λ z. absurd (let z : ⊥ = omega arith in z);
     }
   where
     long : (x : List ℤ) (qs : List (List ℤ)) → readLine (between from e bytes) ≡ some x → 1023 < length (flatten (w .ps ++ (x ∷ qs)))
     long x qs s =
         let n = p .bad (omega (arith, w .sizedValues)) x s in
-        let m : length (flatten (w .ps ++ (x ∷ qs))) ≡ length (flatten (w .ps)) + (length x + length (flatten qs)) = rw (flatten-append, length-append, length-append) refl in
+        let m : length (flatten (w .ps ++ (x ∷ qs))) ≡ length (flatten (w .ps)) + (length x + length (flatten qs)) =
+        rw (flatten-append, length-append, length-append) refl in
         omega (arith, n, m, w .sizedValues, w .filledBy)
 
     go : (o : Option (List ℤ)) → readLine (between from e bytes) ≡ o → (i : Option Input) → limited (behind (w .ps) (andThen o (λ x. behind (x ∷ []) i))) ≡ none
@@ -132,49 +139,57 @@ lines-bad bytes values places from count filled e f r after w q l h p t k =
     go (some x) s none = refl
     go (some x) s (some i) = rw (lt-leb (length (flatten (w .ps ++ (x ∷ i .patterns)))) 1023 (long x (i .patterns) s)) refl
 
-ends-snoc : (n : ℕ) (ps : List (List ℤ)) (x : List ℤ) → ends n (ps ++ (x ∷ [])) ≡ ends n ps ++ ((n + length (flatten ps) + length x) ∷ [])
-unfolding ends flatten
-ends-snoc n [] x = ap (λ (k : ℕ). (k + length x) ∷ []) (let z : n ≡ n + 0 = omega arith in z)
-ends-snoc n (p ∷ ps) x =
+endsOf-snoc : (n : ℕ) (ps : List (List ℤ)) (x : List ℤ) → endsOf n (ps ++ (x ∷ [])) ≡ endsOf n ps ++ ((n + length (flatten ps) + length x) ∷ [])
+unfolding endsOf flatten
+endsOf-snoc n [] x = ap (λ (k : ℕ). (k + length x) ∷ []) (let z : n ≡ n + 0 = omega arith in z)
+endsOf-snoc n (p ∷ ps) x =
     let k : n + length p + length (flatten ps) + length x ≡ n + length (p ++ flatten ps) + length x = rw length-append (omega arith) in
-    ap (λ (l : List ℕ). (n + length p) ∷ l) (ends-snoc (n + length p) ps x ∙ ap (λ (m : ℕ). ends (n + length p) ps ++ (m ∷ [])) k)
+    ap (λ (l : List ℕ). (n + length p) ∷ l) (endsOf-snoc (n + length p) ps x ∙ ap (λ (m : ℕ). endsOf (n + length p) ps ++ (m ∷ [])) k)
 
 -- a pattern's line: there is a place left for where it ends
-pub lines-room : (bytes : List ℕ) (values : List ℤ) (places : List ℕ) (from count filled e f : ℕ) (after : List ℤ) → Reading bytes values places from count filled → e < length bytes → from < e
+pub lines-room : {bytes : List ℕ} {values : List ℤ} {ends : List ℕ} {from count filled e f : ℕ} {after : List ℤ}
+    → Reading bytes values ends from count filled → e < length bytes → from < e
     → Put (readLine (between from e bytes)) filled values after f → f ≤ 1023 → count < f
-lines-room bytes values places from count filled e f after w l h p t =
+lines-room {bytes} {values} {ends} {from} {count} {filled} {e} {f} {after} w l h p t =
     let g = p .good (omega (arith, w .sizedValues)) in
     let s = line-some (between from e bytes) (g .0) (omega (arith, length-between from e bytes (omega arith) (omega arith))) (g .1) in
     omega (arith, g .2, w .few, s)
 
-pub lines-more : (bytes : List ℕ) (values : List ℤ) (places : List ℕ) (from count filled e f : ℕ) (after : List ℤ) → Reading bytes values places from count filled → e ≡ from + upTo 10 (drop from bytes) → e < length bytes → from < e
-    → Put (readLine (between from e bytes)) filled values after f → length after ≡ length values → f ≤ 1023 → Reading bytes after (set places count f) (e + 1) (count + 1) f
+pub lines-more : {bytes : List ℕ} {values : List ℤ} {ends : List ℕ} {from count filled e f : ℕ} {after : List ℤ}
+    → Reading bytes values ends from count filled → e ≡ from + upTo 10 (drop from bytes) → e < length bytes → from < e
+    → Put (readLine (between from e bytes)) filled values after f → length after ≡ length values → f ≤ 1023
+    → Reading bytes after (set ends count f) (e + 1) (count + 1) f
 unfolding flatten
-lines-more bytes values places from count filled e f after w q l h p u t =
+lines-more {bytes} {values} {ends} {from} {count} {filled} {e} {f} {after} w q l h p u t =
     let g = p .good (omega (arith, w .sizedValues)) in
     let x = g .0 in
-    let room = lines-room bytes values places from count filled e f after w l h p t in
-    let fl : flatten (w .ps ++ (x ∷ [])) ≡ flatten (w .ps) ++ x = flatten-append (w .ps) (x ∷ []) ∙ ap (λ (m : List ℤ). flatten (w .ps) ++ m) (append-nil x) in
+    let room = lines-room w l h p t in
+    let fl : flatten (w .ps ++ (x ∷ [])) ≡ flatten (w .ps) ++ x =
+    flatten-append (w .ps) (x ∷ []) ∙ ap (λ (m : List ℤ). flatten (w .ps) ++ m) (append-nil x) in
     let fx : f ≡ length (flatten (w .ps)) + length x = omega (arith, g .2, w .filledBy) in
     let ff : f ≡ length (flatten (w .ps ++ (x ∷ []))) = fx ∙ sym (ap length fl ∙ length-append (flatten (w .ps)) x) in
     record {
       within = omega arith;
       sizedValues = u ∙ w .sizedValues;
-      sizedPlaces = length-set places count f ∙ w .sizedPlaces;
+      sizedEnds = length-set ends count f ∙ w .sizedEnds;
       ps = w .ps ++ (x ∷ []);
       lie = record {
         counted = omega (arith, w .lie .counted, length-snoc (w .ps) x);
         fit = omega arith;
-        lieValues = ap (λ (k : ℕ). take k after) (sym ff) ∙ g .3 ∙ ap (λ (m : List ℤ). m ++ x) (ap (λ (k : ℕ). take k values) (w .filledBy) ∙ w .lie .lieValues) ∙ sym fl;
+        lieValues =
+            ap (λ (k : ℕ). take k after) (sym ff)
+            ∙ g .3
+            ∙ ap (λ (m : List ℤ). m ++ x) (ap (λ (k : ℕ). take k values) (w .filledBy) ∙ w .lie .lieValues)
+            ∙ sym fl;
         lieEnds =
-            ap (λ (k : ℕ). take k (set places count f)) (add-one count)
-            ∙ take-suc-set places count f (omega (arith, w .sizedPlaces))
+            ap (λ (k : ℕ). take k (set ends count f)) (add-one count)
+            ∙ take-suc-set ends count f (omega (arith, w .sizedEnds))
             ∙ ap₂ (λ (m : List ℕ) (k : ℕ). m ++ (k ∷ [])) (w .lie .lieEnds) (fx ∙ (omega arith))
-            ∙ sym (ends-snoc 0 (w .ps) x);
+            ∙ sym (endsOf-snoc 0 (w .ps) x);
       };
       filledBy = ff;
       few = omega arith;
-      rest = line-off bytes values places from count filled e w q l h ∙ (rw (g .1) (behind-snoc (w .ps) x (readLines (parts 10 (drop (e + 1) bytes)))));
+      rest = line-off w q l h ∙ (rw (g .1) (behind-snoc (w .ps) x (readLines (parts 10 (drop (e + 1) bytes)))));
     }
 
 -- ---- the text
@@ -187,13 +202,17 @@ two-one n = go (eqb n 1) refl
     go false e = ne-eqb (suc n) 2 (λ k. eqb-false n 1 e (omega arith))
 
 -- a line that does not end, or more behind it
-pub text-over : (bytes : List ℕ) (from e r : ℕ) (text : List ℤ) → from ≤ length bytes → e ≡ from + upTo 10 (drop from bytes) → e ≤ length bytes → (e + 1 ≡ length bytes → ⊥)
+pub text-over : (bytes : List ℕ) (from : ℕ) {e r : ℕ} {text : List ℤ} → from ≤ length bytes → e ≡ from + upTo 10 (drop from bytes) → e ≤ length bytes
+    → (e + 1 ≡ length bytes → ⊥)
     → 32768 < r → TextRead (drop from bytes) text r
 unfolding readLines
-text-over bytes from e r text h q l f k = record { bad = λ z. go (decLt e (length bytes)); good = λ z. absurd (let z : ⊥ = omega arith in z) }
+text-over bytes from {e} {r} {text} h q l f k = record { bad = λ z. go (decLt e (length bytes)); good = λ z. absurd (let z : ⊥ = omega arith in z) }
   where
     more : readLines ([] ∷ between from e bytes ∷ parts 10 (getD bytes (e + 1) 0 ∷ drop (suc (e + 1)) bytes)) ≡ none
-    more = rw (two-one (length (parts 10 (getD bytes (e + 1) 0 ∷ drop (suc (e + 1)) bytes))), parts-not-empty 10 (getD bytes (e + 1) 0) (drop (suc (e + 1)) bytes)) refl
+    more =
+        let b = getD bytes (e + 1) 0 in
+        let bs = drop (suc (e + 1)) bytes in
+        rw (two-one (length (parts 10 (b ∷ bs))), parts-not-empty 10 b bs) refl
 
     go : Dec (e < length bytes) → readLines ([] ∷ parts 10 (drop from bytes)) ≡ none
     go (yes m) =
@@ -203,21 +222,27 @@ text-over bytes from e r text h q l f k = record { bad = λ z. go (decLt e (leng
     go (no g) = ap (λ (ls : List (List ℕ)). readLines ([] ∷ ls)) (parts-last 10 bytes from e h q (omega arith))
 
 -- the last line
-pub text-last : (bytes : List ℕ) (from e r : ℕ) (text after : List ℤ) → from ≤ length bytes → length bytes ≤ 65536 → length text ≡ 32768 → e ≡ from + upTo 10 (drop from bytes) → e + 1 ≡ length bytes
+pub text-last : (bytes : List ℕ) (from : ℕ) {e r : ℕ} {text after : List ℤ} → from ≤ length bytes → length bytes ≤ 65536 → length text ≡ 32768
+    → e ≡ from + upTo 10 (drop from bytes) → e + 1 ≡ length bytes
     → Put (readLine (between from e bytes)) 0 text after r → TextRead (drop from bytes) after r
 unfolding readLines parts
-text-last bytes from e r text after h m n q l p =
-    record { bad = λ k. is ∙ go k (readLine (between from e bytes)) refl; good = λ k. let g = p .good (omega arith) in (g .0, is ∙ (rw (g .1) refl), g .2 ∙ (omega arith), g .3) }
+text-last bytes from {e} {r} {text} {after} h m n q l p =
+    record {
+      bad = λ k. is ∙ go k (readLine (between from e bytes)) refl;
+      good = λ k. let g = p .good (omega arith) in (g .0, is ∙ (rw (g .1) refl), g .2 ∙ (omega arith), g .3);
+    }
   where
     is : readLines ([] ∷ parts 10 (drop from bytes)) ≡ andThen {B = Input} (readLine (between from e bytes)) (λ xs. some (record { patterns = []; text = xs }))
     is =
         ap (λ (ls : List (List ℕ)). readLines ([] ∷ ls)) (parts-from 10 bytes from e h q (omega arith))
         ∙ ap (λ (bs : List ℕ). readLines ([] ∷ between from e bytes ∷ parts 10 bs)) (drop-of-length-le bytes {i = e + 1} (omega arith))
 
-    go : 32768 < r → (o : Option (List ℤ)) → readLine (between from e bytes) ≡ o → andThen {B = Input} o (λ xs. some (record { patterns = []; text = xs })) ≡ none
+    go : 32768 < r → (o : Option (List ℤ)) → readLine (between from e bytes) ≡ o
+        → andThen {B = Input} o (λ xs. some (record { patterns = []; text = xs })) ≡ none
     go k none s = refl
     go k (some xs) s =
-        absurd (let z : ⊥ = omega (arith, p .bad (omega arith) xs s, line-short (between from e bytes) xs s, length-between from e bytes (omega arith) (omega arith)) in z)
+        let size = length-between from e bytes (omega arith) (omega arith) in
+        absurd (let z : ⊥ = omega (arith, p .bad (omega arith) xs s, line-short (between from e bytes) xs s, size) in z)
 
 -- ---- the whole
 
@@ -229,22 +254,26 @@ short : (bytes : List ℕ) → length bytes ≤ 65536 → readInput bytes ≡ li
 unfolding readInput
 short bytes h = rw (le-leb (length bytes) 65536 h) refl
 
-pub no-patterns : (bytes : List ℕ) (values : List ℤ) (places : List ℕ) (count from : ℕ) → length bytes ≤ 65536 → PatternsRead bytes values places count from → length bytes < from → readInput bytes ≡ none
-no-patterns bytes values places count from h p l = short bytes h ∙ p .bad l
+pub no-patterns : {bytes : List ℕ} {values : List ℤ} {ends : List ℕ} {count from : ℕ} → length bytes ≤ 65536
+    → PatternsRead bytes values ends count from → length bytes < from → readInput bytes ≡ none
+no-patterns {bytes} {values} {ends} {count} {from} h p l = short bytes h ∙ p .bad l
 
-pub no-text : (bytes : List ℕ) (values : List ℤ) (places : List ℕ) (text : List ℤ) (count from n : ℕ) → length bytes ≤ 65536 → PatternsRead bytes values places count from → from ≤ length bytes
+pub no-text : {bytes : List ℕ} {values : List ℤ} {ends : List ℕ} {text : List ℤ} {count from n : ℕ} → length bytes ≤ 65536
+    → PatternsRead bytes values ends count from → from ≤ length bytes
     → TextRead (drop from bytes) text n → 32768 < n → readInput bytes ≡ none
-no-text bytes values places text count from n h p l t k =
+no-text {bytes} {values} {ends} {text} {count} {from} {n} h p l t k =
     let g = p .good l in
     short bytes h ∙ ap limited (g .2 ∙ ap (behind (g .0)) (t .bad k))
 
-pub all-read : (bytes : List ℕ) (values : List ℤ) (places : List ℕ) (text : List ℤ) (count from n : ℕ) → length bytes ≤ 65536 → PatternsRead bytes values places count from → from ≤ length bytes
-    → TextRead (drop from bytes) text n → n ≤ 32768 → IsRead bytes values places text (Parsed.Good count n)
-all-read bytes values places text count from n h p l t k =
+pub all-read : {bytes : List ℕ} {values : List ℤ} {ends : List ℕ} {text : List ℤ} {count from n : ℕ} → length bytes ≤ 65536
+    → PatternsRead bytes values ends count from → from ≤ length bytes
+    → TextRead (drop from bytes) text n → n ≤ 32768 → IsRead bytes values ends text (Parsed.Good count n)
+all-read {bytes} {values} {ends} {text} {count} {from} {n} h p l t k =
     let g = p .good l in
     let x = t .good k in
     let i : Input = record { patterns = g .0; text = x .0 } in
-    let e : readLines (parts 10 bytes) ≡ some i = g .2 ∙ ap (behind (g .0)) (x .1) ∙ ap (λ (ps : List (List ℤ)). some (record { patterns = ps; text = x .0 })) (append-nil (g .0)) in (
+    let e : readLines (parts 10 bytes) ≡ some i =
+    g .2 ∙ ap (behind (g .0)) (x .1) ∙ ap (λ (ps : List (List ℤ)). some (record { patterns = ps; text = x .0 })) (append-nil (g .0)) in (
       i,
       (
         short bytes h ∙ ap limited e ∙ (rw (le-leb (length (flatten (g .0))) 1023 (g .1 .fit)) refl),

@@ -1,25 +1,13 @@
--- LINES: numbers are read from the front of a line, one part after the other, and put behind each other.
-use mathlib.Core.Path.{_≡_, refl, sym, _∙_, ap, ap₂, subst}
-use mathlib.Core.Bool.{true, false, cond}
-use mathlib.Core.Option.{Option, none, some, Option·some-injective}
-use mathlib.Core.List.{List, [], _∷_, _++_, map, append-assoc, append-nil}
-use Prim.Native.Nat.{ℕ, suc, _+_, _-_, _*_, _≤_, _<_}
-use native.Mathlib.Omega.{arith}
-use native.Mathlib.Decide.{decLt}
-use native.Mathlib.Numerals.{add-one}
-use borrow.Author.Tests.{le-leb, lt-leb}
-use lib.Dec.{T, leb}
-use lib.IntN.{ℤ}
-use lib.ListN.{length, take, drop, length-append, length-set}
-use lib.Seq.{append-snoc, take-suc-set}
-use Rattle.lists.proofs.Lists.{length-snoc}
+-- LINES: numbers are read from the front of a line, one part after the other, and put behind each
+-- other.
+use Rattle.lists.proofs.Prelude.{Option·none-ne-some, _≡_, _∙_, ap, sym, refl, subst, ap₂, true, false, cond, Option, none, some, Option·some-injective, List}
+use Rattle.lists.proofs.Prelude.{[], _∷_, _++_, map, append-nil, append-assoc, ℕ, suc, _+_, _-_, _*_, _≤_, _<_, ℤ, T, leb, length, take, drop, length-append}
+use Rattle.lists.proofs.Prelude.{length-set, append-snoc, take-suc-set, add-one, decLt, arith, le-leb, lt-leb}
+use Rattle.lists.proofs.Parts.{length-snoc}
 use Rattle.hits_input.specs.Input.{andThen, parts, readNumber, gather, readLine}
 use Rattle.hits_input.specs.Steps.{upTo, isThere, stored, numbers, Put}
 use Rattle.hits_input.proofs.Cutting.{parts-from, parts-last, weight, weight-parts}
 use Rattle.hits_input.proofs.Numbers.{number-not-empty}
-
-pub none-some : {A : Type 0} {a : A} → none ≡ some a → ⊥
-none-some {A} e = subst (λ (o : Option A). T (isThere o)) (sym e) tt
 
 -- ---- the parts of a line from a place on; none behind its end
 
@@ -29,10 +17,12 @@ partsFrom line from = cond (leb from (length line)) (parts 32 (drop from line)) 
 abbrev pub restOf : List ℕ → ℕ → Option (List ℤ)
 restOf line from = gather (map readNumber (partsFrom line from))
 
-parts-step : (line : List ℕ) (from e : ℕ) → from ≤ length line → e ≡ from + upTo 32 (drop from line) → partsFrom line from ≡ take (e - from) (drop from line) ∷ partsFrom line (e + 1)
+parts-step : (line : List ℕ) (from e : ℕ) → from ≤ length line → e ≡ from + upTo 32 (drop from line)
+    → partsFrom line from ≡ take (e - from) (drop from line) ∷ partsFrom line (e + 1)
 parts-step line from e h q = rw (le-leb from (length line) h) (go (decLt e (length line)))
   where
-    go : Dec (e < length line) → parts 32 (drop from line) ≡ take (e - from) (drop from line) ∷ cond (leb (e + 1) (length line)) (parts 32 (drop (e + 1) line)) []
+    go : Dec (e < length line) → parts 32 (drop from line) ≡ take (e - from) (drop from line) ∷ cond (leb (e + 1) (length line))
+        (parts 32 (drop (e + 1) line)) []
     go (yes l) = rw (le-leb (e + 1) (length line) (omega arith)) (parts-from 32 line from e h q l)
     go (no f) = rw (lt-leb (e + 1) (length line) (omega arith)) (parts-last 32 line from e h q (omega arith))
 
@@ -43,31 +33,48 @@ rest-step line from e h q = ap (λ (ps : List (List ℕ)). gather (map readNumbe
 
 -- ---- the loop over the parts
 
--- of the numbers of the line, those before place `from` lie in the array from place `at` on, up to place `to`
+-- of the numbers of the line, those before place `from` lie in the array from place `at` on, up to
+-- place `to`
 pub record Filling (line : List ℕ) (at : ℕ) (before out : List ℤ) (from to : ℕ) : Type 0 where
+  -- the place is in the line, at its end or one behind it
   pub within : from ≤ length line + 1
+  -- the array is as long as it was
   pub sized : length out ≡ length before
+  -- and the numbers have room
   pub room : to ≤ length out
+  -- the numbers that are read
   pub done : List ℤ
+  -- they lie from place `at` on, up to place `to`
   pub place : to ≡ at + length done
   pub lies : take to out ≡ take at before ++ done
+  -- the line has these numbers and those of its rest
   pub rest : numbers line ≡ andThen (restOf line from) (λ xs. some (done ++ xs))
 
 pub fill-start : (line : List ℕ) (at : ℕ) (out : List ℤ) → at ≤ length out → Filling line at out out 0 at
 fill-start line at out h =
-    record { within = omega arith; sized = refl; room = h; done = []; place = omega arith; lies = sym (append-nil (take at out)); rest = rw (le-leb 0 (length line) (omega arith)) (keep (numbers line)) }
+    record {
+      within = omega arith;
+      sized = refl;
+      room = h;
+      done = [];
+      place = omega arith;
+      lies = sym (append-nil (take at out));
+      rest = rw (le-leb 0 (length line) (omega arith)) (keep (numbers line));
+    }
   where
     keep : (o : Option (List ℤ)) → o ≡ andThen o (λ xs. some ([] ++ xs))
     keep none = refl
     keep (some xs) = refl
 
 -- a part that is no number
-pub fill-bad : (line : List ℕ) (at : ℕ) (before out : List ℤ) (from to e r : ℕ) (after : List ℤ) → Filling line at before out from to → from ≤ length line → e ≡ from + upTo 32 (drop from line)
+pub fill-bad : {line : List ℕ} {at : ℕ} {before out : List ℤ} {from to e r : ℕ} {after : List ℤ} → Filling line at before out from to
+    → from ≤ length line → e ≡ from + upTo 32 (drop from line)
     → isThere (readNumber (take (e - from) (drop from line))) ≡ false → length before < r → Put (numbers line) at before after r
-fill-bad line at before out from to e r after w h q t l =
-    record { bad = λ k xs s. absurd (none-some (sym no ∙ s)); good = λ k. absurd (let z : ⊥ = omega arith in z) }
+fill-bad {line} {at} {before} {out} {from} {to} {e} {r} {after} w h q t l =
+    record { bad = λ k xs s. absurd (Option·none-ne-some _ (sym no ∙ s)); good = λ k. absurd (let z : ⊥ = omega arith in z) }
   where
-    go : (o : Option ℤ) → isThere o ≡ false → andThen (andThen o (λ a. andThen (restOf line (e + 1)) (λ rest. some (a ∷ rest)))) (λ xs. some (w .done ++ xs)) ≡ none
+    go : (o : Option ℤ) → isThere o ≡ false
+        → andThen (andThen o (λ a. andThen (restOf line (e + 1)) (λ rest. some (a ∷ rest)))) (λ xs. some (w .done ++ xs)) ≡ none
     go none s = refl
     go (some a) s = absurd (subst T s tt)
 
@@ -75,9 +82,10 @@ fill-bad line at before out from to e r after w h q t l =
     no = w .rest ∙ (rw (rest-step line from e h q) (go (readNumber (take (e - from) (drop from line))) t))
 
 -- a part left, and no room
-pub fill-full : (line : List ℕ) (at : ℕ) (before out : List ℤ) (from to e r : ℕ) → Filling line at before out from to → from ≤ length line → e ≡ from + upTo 32 (drop from line)
+pub fill-full : {line : List ℕ} {at : ℕ} {before out : List ℤ} {from to e r : ℕ} → Filling line at before out from to → from ≤ length line
+    → e ≡ from + upTo 32 (drop from line)
     → to ≡ length before → length before < r → Put (numbers line) at before out r
-fill-full line at before out from to e r w h q t l =
+fill-full {line} {at} {before} {out} {from} {to} {e} {r} w h q t l =
     record {
       bad = λ k xs s.
           let g = go (readNumber (take (e - from) (drop from line))) (restOf line (e + 1)) xs (sym (w .rest ∙ (rw (rest-step line from e h q) refl)) ∙ s) in
@@ -85,25 +93,29 @@ fill-full line at before out from to e r w h q t l =
       good = λ k. absurd (let z : ⊥ = omega arith in z);
     }
   where
-    go : (o : Option ℤ) (r : Option (List ℤ)) (xs : List ℤ) → andThen (andThen o (λ a. andThen r (λ rest. some (a ∷ rest)))) (λ ys. some (w .done ++ ys)) ≡ some xs
+    go : (o : Option ℤ) (r : Option (List ℤ)) (xs : List ℤ)
+        → andThen (andThen o (λ a. andThen r (λ rest. some (a ∷ rest)))) (λ ys. some (w .done ++ ys)) ≡ some xs
         → length (w .done) < length xs
-    go none r xs s = absurd (none-some s)
-    go (some a) none xs s = absurd (none-some s)
+    go none r xs s = absurd (Option·none-ne-some _ s)
+    go (some a) none xs s = absurd (Option·none-ne-some _ s)
     go (some a) (some ys) xs s =
         let n : length (w .done) + suc (length ys) ≡ length xs = sym (length-append (w .done) (a ∷ ys)) ∙ ap length (Option·some-injective _ _ s) in
         omega arith
 
 -- a part that is a number
-pub fill-more : (line : List ℕ) (at : ℕ) (before out : List ℤ) (from to e : ℕ) (after : List ℤ) → Filling line at before out from to → from ≤ length line → e ≡ from + upTo 32 (drop from line) → e ≤ length line
+pub fill-more : {line : List ℕ} {at : ℕ} {before out : List ℤ} {from to e : ℕ} {after : List ℤ} → Filling line at before out from to
+    → from ≤ length line → e ≡ from + upTo 32 (drop from line) → e ≤ length line
     → to < length out → isThere (readNumber (take (e - from) (drop from line))) ≡ true → after ≡ stored (readNumber (take (e - from) (drop from line))) to out
     → Filling line at before after (e + 1) (to + 1)
-fill-more line at before out from to e after w h q m l t s = go (readNumber (take (e - from) (drop from line))) refl t s
+fill-more {line} {at} {before} {out} {from} {to} {e} {after} w h q m l t s = go (readNumber (take (e - from) (drop from line))) refl t s
   where
-    more : (z : ℤ) (r : Option (List ℤ)) → andThen (andThen r (λ rest. some (z ∷ rest))) (λ xs. some (w .done ++ xs)) ≡ andThen r (λ xs. some ((w .done ++ (z ∷ [])) ++ xs))
+    more : (z : ℤ) (r : Option (List ℤ))
+        → andThen (andThen r (λ rest. some (z ∷ rest))) (λ xs. some (w .done ++ xs)) ≡ andThen r (λ xs. some ((w .done ++ (z ∷ [])) ++ xs))
     more z none = refl
     more z (some ys) = ap some (sym (append-snoc (w .done) z ys))
 
-    go : (o : Option ℤ) → readNumber (take (e - from) (drop from line)) ≡ o → isThere o ≡ true → after ≡ stored o to out → Filling line at before after (e + 1) (to + 1)
+    go : (o : Option ℤ) → readNumber (take (e - from) (drop from line)) ≡ o → isThere o ≡ true → after ≡ stored o to out
+        → Filling line at before after (e + 1) (to + 1)
     go none p a b = absurd (subst T (sym a) tt)
     go (some z) p a b =
         record {
@@ -112,14 +124,19 @@ fill-more line at before out from to e after w h q m l t s = go (readNumber (tak
           room = rw (ap length b ∙ length-set out to z) (omega arith);
           done = w .done ++ (z ∷ []);
           place = omega (arith, length-snoc (w .done) z, w .place);
-          lies = ap₂ take (add-one to) b ∙ take-suc-set out to z l ∙ ap (λ (x : List ℤ). x ++ (z ∷ [])) (w .lies) ∙ append-assoc (take at before) (w .done) (z ∷ []);
+          lies =
+              ap₂ take (add-one to) b
+              ∙ take-suc-set out to z l
+              ∙ ap (λ (x : List ℤ). x ++ (z ∷ [])) (w .lies)
+              ∙ append-assoc (take at before) (w .done) (z ∷ []);
           rest = w .rest ∙ (rw (rest-step line from e h q, p) (more z (restOf line (e + 1))));
         }
 
 -- no part left
-pub fill-end : (line : List ℕ) (at : ℕ) (before out : List ℤ) (from to : ℕ) → Filling line at before out from to → length line < from → Put (numbers line) at before out to
+pub fill-end : {line : List ℕ} {at : ℕ} {before out : List ℤ} {from to : ℕ} → Filling line at before out from to → length line < from
+    → Put (numbers line) at before out to
 unfolding gather
-fill-end line at before out from to w h =
+fill-end {line} {at} {before} {out} {from} {to} w h =
     let e : numbers line ≡ some (w .done) = w .rest ∙ (rw (lt-leb from (length line) h) (ap some (append-nil (w .done)))) in
     record { bad = λ k. absurd (let z : ⊥ = omega (arith, w .room, w .sized) in z); good = λ k. (w .done, e, w .place, w .lies) }
 
@@ -144,8 +161,8 @@ gather-short (p ∷ ps) xs e = go (readNumber p) refl (gather (map readNumber ps
   where
     go : (o : Option ℤ) → readNumber p ≡ o → (r : Option (List ℤ)) → ((ys : List ℤ) → r ≡ some ys → 2 * length ys ≤ weight ps)
         → andThen o (λ a. andThen r (λ rest. some (a ∷ rest))) ≡ some xs → 2 * length xs ≤ suc (length p) + weight ps
-    go none q r ih s = absurd (none-some s)
-    go (some a) q none ih s = absurd (none-some s)
+    go none q r ih s = absurd (Option·none-ne-some _ s)
+    go (some a) q none ih s = absurd (Option·none-ne-some _ s)
     go (some a) q (some ys) ih s =
         let n : suc (length ys) ≡ length xs = ap length (Option·some-injective _ _ s) in
         omega (arith, ih ys refl, number-not-empty p a q)
@@ -161,8 +178,8 @@ gather-some [] xs h e = absurd (let z : ⊥ = omega arith in z)
 gather-some (p ∷ ps) xs h e = go (readNumber p) (gather (map readNumber ps)) e
   where
     go : (o : Option ℤ) (r : Option (List ℤ)) → andThen o (λ a. andThen r (λ rest. some (a ∷ rest))) ≡ some xs → 1 ≤ length xs
-    go none r s = absurd (none-some s)
-    go (some a) none s = absurd (none-some s)
+    go none r s = absurd (Option·none-ne-some _ s)
+    go (some a) none s = absurd (Option·none-ne-some _ s)
     go (some a) (some ys) s = let n : suc (length ys) ≡ length xs = ap length (Option·some-injective _ _ s) in omega arith
 
 -- a line that is not empty has a number

@@ -1,20 +1,11 @@
--- NUMBERS: the size that the code finds is the number that the digits tell where that has at most 32 bits, and above all of 32 bits where it has not.
-use mathlib.Core.Path.{_≡_, refl, sym, _∙_, ap, subst}
-use mathlib.Core.Bool.{Bool, true, false, cond, _&&_}
-use mathlib.Core.Option.{Option, none, some}
-use mathlib.Core.List.{List, [], _∷_}
-use Prim.Native.Nat.{ℕ, zero, suc, _+_, _-_, _*_, _≤_, _<_}
-use native.Mathlib.Omega.{arith}
-use native.Mathlib.Decide.{decLt}
-use borrow.Author.Tests.{eq-eqb, ne-eqb, le-leb, lt-leb, leb-true, leb-false}
-use lib.Dec.{leb}
-use lib.IntN.{ℤ, pos, negsuc, _-ℤ_}
-use lib.ListN.{length, getD, drop, drop-of-length-le}
-use lib.Seq.{drop-cons}
-use Rattle.lists.specs.Prelude.{all}
+-- NUMBERS: the size that the code finds is the number that the digits tell where that has at most
+-- 32 bits, and above all of 32 bits where it has not.
+use Rattle.lists.proofs.Prelude.{_≡_, _∙_, ap, sym, refl, subst, Bool, true, false, cond, _&&_, Option, none, some, List, [], _∷_, ℕ, zero, suc, _+_, _-_, _*_}
+use Rattle.lists.proofs.Prelude.{_≤_, _<_, ℤ, pos, negsuc, _-ℤ_, leb, length, getD, drop, drop-of-length-le, drop-cons, decLt, arith, eq-eqb, le-leb, ne-eqb}
+use Rattle.lists.proofs.Prelude.{lt-leb, leb-true, leb-false, all}
+use Rattle.lists.proofs.Tests.{and-false}
 use Rattle.hits_input.specs.Input.{when, decimal, areDigits, negative, readNumber}
-use Rattle.hits_input.specs.Steps.{next, told, sizeOf}
-use Rattle.lists.proofs.Lists.{and-false}
+use Rattle.hits_input.specs.Steps.{next, sizeFrom, sizeOf}
 
 abbrev isDigit : ℕ → Bool
 isDigit d = leb 48 d && leb d 57
@@ -30,19 +21,20 @@ digit-low d h = rw (lt-leb 48 d h) refl
 pub digit-high : (d : ℕ) → 57 < d → leb 48 d && leb d 57 ≡ false
 digit-high d h = rw (lt-leb d 57 h) (and-false (leb 48 d))
 
-pub told-next : (v : ℕ) (ds : List ℕ) (i : ℕ) → i < length ds → leb 48 (getD ds i 0) && leb (getD ds i 0) 57 ≡ true → told v (drop i ds) ≡ told (next v (getD ds i 0)) (drop (suc i) ds)
-unfolding told
-told-next v ds i h e = rw (drop-cons ds i 0 h, e) refl
+pub sizeFrom-next : (v : ℕ) (ds : List ℕ) (i : ℕ) → i < length ds → leb 48 (getD ds i 0) && leb (getD ds i 0) 57 ≡ true
+    → sizeFrom v (drop i ds) ≡ sizeFrom (next v (getD ds i 0)) (drop (suc i) ds)
+unfolding sizeFrom
+sizeFrom-next v ds i h e = rw (drop-cons ds i 0 h, e) refl
 
-pub told-no : (v : ℕ) (ds : List ℕ) (i : ℕ) → i < length ds → leb 48 (getD ds i 0) && leb (getD ds i 0) 57 ≡ false → told v (drop i ds) ≡ 4294967296
-unfolding told
-told-no v ds i h e = rw (drop-cons ds i 0 h, e) refl
+pub sizeFrom-no : (v : ℕ) (ds : List ℕ) (i : ℕ) → i < length ds → leb 48 (getD ds i 0) && leb (getD ds i 0) 57 ≡ false → sizeFrom v (drop i ds) ≡ 4294967296
+unfolding sizeFrom
+sizeFrom-no v ds i h e = rw (drop-cons ds i 0 h, e) refl
 
-pub told-end : (v : ℕ) (ds : List ℕ) (i : ℕ) → length ds ≤ i → told v (drop i ds) ≡ v
-unfolding told
-told-end v ds i h = rw (drop-of-length-le ds {i = i} h) refl
+pub sizeFrom-end : (v : ℕ) (ds : List ℕ) (i : ℕ) → length ds ≤ i → sizeFrom v (drop i ds) ≡ v
+unfolding sizeFrom
+sizeFrom-end v ds i h = rw (drop-of-length-le ds {i = i} h) refl
 
-pub sizeOf-some : (ds : List ℕ) (i : ℕ) → i < length ds → sizeOf (drop i ds) ≡ told 0 (drop i ds)
+pub sizeOf-some : (ds : List ℕ) (i : ℕ) → i < length ds → sizeOf (drop i ds) ≡ sizeFrom 0 (drop i ds)
 unfolding sizeOf
 sizeOf-some ds i h = rw (drop-cons ds i 0 h) refl
 
@@ -60,12 +52,12 @@ next-lt v d h k = go (leb 4294967296 v) refl
 
 -- ---- what is found, and what the digits tell
 
-told-high : (v : ℕ) (ds : List ℕ) → 4294967296 ≤ v → 4294967296 ≤ told v ds
-unfolding told
-told-high v [] h = h
-told-high v (d ∷ ds) h = go (isDigit d) (told-high v ds h)
+sizeFrom-high : (v : ℕ) (ds : List ℕ) → 4294967296 ≤ v → 4294967296 ≤ sizeFrom v ds
+unfolding sizeFrom
+sizeFrom-high v [] h = h
+sizeFrom-high v (d ∷ ds) h = go (isDigit d) (sizeFrom-high v ds h)
   where
-    go : (t : Bool) → 4294967296 ≤ told v ds → 4294967296 ≤ cond t (told (next v d) ds) 4294967296
+    go : (t : Bool) → 4294967296 ≤ sizeFrom v ds → 4294967296 ≤ cond t (sizeFrom (next v d) ds) 4294967296
     go true ih = rw (le-leb 4294967296 v h) ih
     go false ih = omega arith
 
@@ -74,27 +66,27 @@ unfolding decimal
 decimal-high v [] h = h
 decimal-high v (d ∷ ds) h = decimal-high (v * 10 + (d - 48)) ds (omega arith)
 
-told-good : (v : ℕ) (ds : List ℕ) → told v ds < 4294967296 → (all isDigit ds ≡ true) × (told v ds ≡ decimal v ds)
-unfolding told decimal all
-told-good v [] h = (refl, refl)
-told-good v (d ∷ ds) h = go (isDigit d) (leb 4294967296 v) refl (told-good (v * 10 + (d - 48)) ds) h
+sizeFrom-good : (v : ℕ) (ds : List ℕ) → sizeFrom v ds < 4294967296 → (all isDigit ds ≡ true) × (sizeFrom v ds ≡ decimal v ds)
+unfolding sizeFrom decimal all
+sizeFrom-good v [] h = (refl, refl)
+sizeFrom-good v (d ∷ ds) h = go (isDigit d) (leb 4294967296 v) refl (sizeFrom-good (v * 10 + (d - 48)) ds) h
   where
     go : (t u : Bool) → leb 4294967296 v ≡ u
-        → (told (v * 10 + (d - 48)) ds < 4294967296 → (all isDigit ds ≡ true) × (told (v * 10 + (d - 48)) ds ≡ decimal (v * 10 + (d - 48)) ds))
-        → cond t (told (cond u v (v * 10 + (d - 48))) ds) 4294967296 < 4294967296
-        → (t && all isDigit ds ≡ true) × (cond t (told (cond u v (v * 10 + (d - 48))) ds) 4294967296 ≡ decimal (v * 10 + (d - 48)) ds)
-    go true true e ih l = absurd (let z : ⊥ = omega (arith, told-high v ds (leb-true 4294967296 v e)) in z)
+        → (sizeFrom (v * 10 + (d - 48)) ds < 4294967296 → (all isDigit ds ≡ true) × (sizeFrom (v * 10 + (d - 48)) ds ≡ decimal (v * 10 + (d - 48)) ds))
+        → cond t (sizeFrom (cond u v (v * 10 + (d - 48))) ds) 4294967296 < 4294967296
+        → (t && all isDigit ds ≡ true) × (cond t (sizeFrom (cond u v (v * 10 + (d - 48))) ds) 4294967296 ≡ decimal (v * 10 + (d - 48)) ds)
+    go true true e ih l = absurd (let z : ⊥ = omega (arith, sizeFrom-high v ds (leb-true 4294967296 v e)) in z)
     go true false e ih l = ih l
     go false u e ih l = absurd (let z : ⊥ = omega arith in z)
 
-told-bad : (v : ℕ) (ds : List ℕ) → all isDigit ds ≡ true → 4294967296 ≤ told v ds → 4294967296 ≤ decimal v ds
-unfolding told decimal all
-told-bad v [] a h = h
-told-bad v (d ∷ ds) a h = go (isDigit d) (leb 4294967296 v) refl (told-bad (v * 10 + (d - 48)) ds) a h
+sizeFrom-bad : (v : ℕ) (ds : List ℕ) → all isDigit ds ≡ true → 4294967296 ≤ sizeFrom v ds → 4294967296 ≤ decimal v ds
+unfolding sizeFrom decimal all
+sizeFrom-bad v [] a h = h
+sizeFrom-bad v (d ∷ ds) a h = go (isDigit d) (leb 4294967296 v) refl (sizeFrom-bad (v * 10 + (d - 48)) ds) a h
   where
     go : (t u : Bool) → leb 4294967296 v ≡ u
-        → (all isDigit ds ≡ true → 4294967296 ≤ told (v * 10 + (d - 48)) ds → 4294967296 ≤ decimal (v * 10 + (d - 48)) ds)
-        → t && all isDigit ds ≡ true → 4294967296 ≤ cond t (told (cond u v (v * 10 + (d - 48))) ds) 4294967296
+        → (all isDigit ds ≡ true → 4294967296 ≤ sizeFrom (v * 10 + (d - 48)) ds → 4294967296 ≤ decimal (v * 10 + (d - 48)) ds)
+        → t && all isDigit ds ≡ true → 4294967296 ≤ cond t (sizeFrom (cond u v (v * 10 + (d - 48))) ds) 4294967296
         → 4294967296 ≤ decimal (v * 10 + (d - 48)) ds
     go true true e ih b l = decimal-high (v * 10 + (d - 48)) ds (omega (arith, leb-true 4294967296 v e))
     go true false e ih b l = ih b l
@@ -105,23 +97,24 @@ pub size-good : (ds : List ℕ) (limit : ℕ) → limit < 4294967296 → sizeOf 
 unfolding sizeOf areDigits
 size-good [] limit l h = absurd (let z : ⊥ = omega arith in z)
 size-good (d ∷ ds) limit l h =
-    let g = told-good 0 (d ∷ ds) (omega arith) in
+    let g = sizeFrom-good 0 (d ∷ ds) (omega arith) in
     (rw (le-leb 1 (suc (length ds)) (omega arith), g .0, le-leb (decimal 0 (d ∷ ds)) limit (omega (arith, g .1))) refl, sym (g .1))
 
 -- a size above the limit: there are no such digits
 pub size-bad : (ds : List ℕ) (limit : ℕ) → limit < 4294967296 → limit < sizeOf ds → areDigits limit ds ≡ false
 unfolding sizeOf areDigits
 size-bad [] limit l h = refl
-size-bad (d ∷ ds) limit l h = rw (le-leb 1 (suc (length ds)) (omega arith)) (go (all isDigit (d ∷ ds)) refl (decLt (told 0 (d ∷ ds)) 4294967296))
+size-bad (d ∷ ds) limit l h = rw (le-leb 1 (suc (length ds)) (omega arith)) (go (all isDigit (d ∷ ds)) refl (decLt (sizeFrom 0 (d ∷ ds)) 4294967296))
   where
-    go : (t : Bool) → all isDigit (d ∷ ds) ≡ t → Dec (told 0 (d ∷ ds) < 4294967296) → t && leb (decimal 0 (d ∷ ds)) limit ≡ false
-    go true e (yes k) = lt-leb (decimal 0 (d ∷ ds)) limit (omega (arith, told-good 0 (d ∷ ds) k .1))
-    go true e (no f) = lt-leb (decimal 0 (d ∷ ds)) limit (omega (arith, told-bad 0 (d ∷ ds) e (omega arith)))
+    go : (t : Bool) → all isDigit (d ∷ ds) ≡ t → Dec (sizeFrom 0 (d ∷ ds) < 4294967296) → t && leb (decimal 0 (d ∷ ds)) limit ≡ false
+    go true e (yes k) = lt-leb (decimal 0 (d ∷ ds)) limit (omega (arith, sizeFrom-good 0 (d ∷ ds) k .1))
+    go true e (no f) = lt-leb (decimal 0 (d ∷ ds)) limit (omega (arith, sizeFrom-bad 0 (d ∷ ds) e (omega arith)))
     go false e k = refl
 
 -- ---- numbers
 
-minus-is : (part : List ℕ) → 0 < length part → getD part 0 0 ≡ 45 → readNumber part ≡ when (areDigits 2147483648 (drop 1 part)) (some (negative (decimal 0 (drop 1 part))))
+minus-is : (part : List ℕ) → 0 < length part → getD part 0 0 ≡ 45
+    → readNumber part ≡ when (areDigits 2147483648 (drop 1 part)) (some (negative (decimal 0 (drop 1 part))))
 unfolding readNumber
 minus-is [] h e = absurd (let z : ⊥ = omega arith in z)
 minus-is (b ∷ bs) h e = rw (eq-eqb b 45 e) refl
@@ -131,7 +124,8 @@ unfolding readNumber
 plain-is [] h f = absurd (let z : ⊥ = omega arith in z)
 plain-is (b ∷ bs) h f = rw (ne-eqb b 45 f) refl
 
-pub minus-good : (part : List ℕ) (size : ℕ) → 0 < length part → getD part 0 0 ≡ 45 → size ≡ sizeOf (drop 1 part) → size ≤ 2147483648 → readNumber part ≡ some (negative size)
+pub minus-good : (part : List ℕ) (size : ℕ) → 0 < length part → getD part 0 0 ≡ 45 → size ≡ sizeOf (drop 1 part) → size ≤ 2147483648
+    → readNumber part ≡ some (negative size)
 minus-good part size h e q l =
     let g = size-good (drop 1 part) 2147483648 (omega arith) (omega arith) in
     minus-is part h e ∙ (rw (g .0, g .1 ∙ sym q) refl)
@@ -139,7 +133,8 @@ minus-good part size h e q l =
 pub minus-bad : (part : List ℕ) (size : ℕ) → 0 < length part → getD part 0 0 ≡ 45 → size ≡ sizeOf (drop 1 part) → 2147483648 < size → readNumber part ≡ none
 minus-bad part size h e q l = minus-is part h e ∙ (rw (size-bad (drop 1 part) 2147483648 (omega arith) (omega arith)) refl)
 
-pub plain-good : (part : List ℕ) (size : ℕ) → 0 < length part → (getD part 0 0 ≡ 45 → ⊥) → size ≡ sizeOf part → size ≤ 2147483647 → readNumber part ≡ some (pos size)
+pub plain-good : (part : List ℕ) (size : ℕ) → 0 < length part → (getD part 0 0 ≡ 45 → ⊥) → size ≡ sizeOf part → size ≤ 2147483647
+    → readNumber part ≡ some (pos size)
 plain-good part size h f q l =
     let g = size-good part 2147483647 (omega arith) (omega arith) in
     plain-is part h f ∙ (rw (g .0, g .1 ∙ sym q) refl)

@@ -1,7 +1,9 @@
--- What the program `hits` reads: a line per pattern, an empty line, one line of the text. Document 01: Program `hits`.
--- The bytes are 10 for the newline, 32 for the space, 45 for the minus sign and 48 to 57 for the digits.
+-- What the program `hits` reads: a line per pattern, an empty line, one line of the text. Document
+-- 01: Program `hits`. The bytes are 10 for the newline, 32 for the space, 45 for the minus sign and
+-- 48 to 57 for the digits.
 use lib.IntN.{negsuc}
-use Rattle.lists.specs.Prelude.{Bool, cond, _&&_, Option, none, some, List, [], _∷_, map, flatten, all, ℕ, zero, suc, _+_, _-_, _*_, eqb, leb, ℤ, pos, length, getD}
+use Rattle.lists.specs.Prelude.{Bool, cond, _&&_, Option, none, some, List, [], _∷_, map, flatten, ℕ, zero, suc, _+_, _-_, _*_, eqb, leb, ℤ, pos, length, getD}
+use Rattle.lists.specs.Prelude.{all}
 
 -- what is made of it, if it is there
 abbrev pub andThen : {A B : Type 0} → Option A → (A → Option B) → Option B
@@ -56,7 +58,8 @@ pub record Input : Type 0 where
   pub patterns : List (List ℤ)
   pub text : List ℤ
 
--- lines up to an empty one are patterns, the one behind it is the text, and behind that line's end there is nothing
+-- lines up to an empty one are patterns, the one behind it is the text, and behind that line's end
+-- there is nothing
 unfoldable pub readLines : List (List ℕ) → Option Input
 readLines [] = none
 readLines ([] ∷ ls) =

@@ -1,8 +1,8 @@
 -- What each step of reading finds and leaves, said in the words of Input.antt.
-use Prim.Native.Nat.{_≤_, _<_}
-use Rattle.lists.specs.Prelude.{_≡_, Bool, true, false, cond, _&&_, Option, none, some, List, [], _∷_, _++_, map, flatten, ℕ, suc, _+_, _-_, _*_, eqb, leb, ℤ, length, take, drop, set}
+use Rattle.lists.specs.Prelude.{_≡_, Bool, true, false, cond, _&&_, Option, none, some, List, [], _∷_, _++_, map, flatten, ℕ, suc, _+_, _-_, _*_, _≤_, _<_, eqb}
+use Rattle.lists.specs.Prelude.{leb, ℤ, length, take, drop, set}
 use Rattle.hits_input.specs.Input.{andThen, when, parts, readNumber, gather, Input, readLines}
-use Rattle.hits_input.specs.Read.{ends}
+use Rattle.hits_input.specs.Read.{endsOf}
 
 -- the place of the first separator; the length where there is none
 unfoldable pub upTo : ℕ → List ℕ → ℕ
@@ -13,15 +13,16 @@ upTo sep (b ∷ bs) = cond (eqb b sep) 0 (suc (upTo sep bs))
 abbrev pub next : ℕ → ℕ → ℕ
 next v d = cond (leb 4294967296 v) v (v * 10 + (d - 48))
 
--- the size that digits tell, behind those that tell v; above all of 32 bits where it is, and where there are not only digits
-unfoldable pub told : ℕ → List ℕ → ℕ
-told v [] = v
-told v (d ∷ ds) = cond (leb 48 d && leb d 57) (told (next v d) ds) 4294967296
+-- the size that digits tell, behind those that tell v; above all of 32 bits where it is, and where
+-- there are not only digits
+unfoldable pub sizeFrom : ℕ → List ℕ → ℕ
+sizeFrom v [] = v
+sizeFrom v (d ∷ ds) = cond (leb 48 d && leb d 57) (sizeFrom (next v d) ds) 4294967296
 
 -- the same of all digits, of which there must be one
 unfoldable pub sizeOf : List ℕ → ℕ
 sizeOf [] = 4294967296
-sizeOf (d ∷ ds) = told 0 (d ∷ ds)
+sizeOf (d ∷ ds) = sizeFrom 0 (d ∷ ds)
 
 abbrev pub isThere : {A : Type 0} → Option A → Bool
 isThere none = false
@@ -36,7 +37,8 @@ stored (some z) at out = set out at z
 abbrev pub numbers : List ℕ → Option (List ℤ)
 numbers bs = gather (map readNumber (parts 32 bs))
 
--- the numbers o, if they are there and have room, lie from a place on, and r is the place behind them; else r is behind the array
+-- the numbers o, if they are there and have room, lie from a place on, and r is the place behind
+-- them; else r is behind the array
 pub record Put (o : Option (List ℤ)) (at : ℕ) (before after : List ℤ) (r : ℕ) : Type 0 where
   pub bad : length before < r → (xs : List ℤ) → o ≡ some xs → length before < at + length xs
   pub good : r ≤ length before → (xs : List ℤ) × (o ≡ some xs) × (r ≡ at + length xs) × (take r after ≡ take at before ++ xs)
@@ -50,16 +52,18 @@ abbrev pub limited : Option Input → Option Input
 limited o = andThen o (λ i. when (leb (length (flatten (i .patterns))) 1023) (some i))
 
 -- these patterns lie in the arrays
-pub record Lie (ps : List (List ℤ)) (values : List ℤ) (places : List ℕ) (count : ℕ) : Type 0 where
+pub record Lie (ps : List (List ℤ)) (values : List ℤ) (ends : List ℕ) (count : ℕ) : Type 0 where
   pub counted : count ≡ length ps
   pub fit : length (flatten ps) ≤ 1023
   pub lieValues : take (length (flatten ps)) values ≡ flatten ps
-  pub lieEnds : take count places ≡ ends 0 ps
+  pub lieEnds : take count ends ≡ endsOf 0 ps
 
--- the pattern lines are read, and an empty line ends before a place; or the place is behind the bytes and there is no input
-pub record PatternsRead (bytes : List ℕ) (values : List ℤ) (places : List ℕ) (count from : ℕ) : Type 0 where
+-- the pattern lines are read, and an empty line ends before a place; or the place is behind the
+-- bytes and there is no input
+pub record PatternsRead (bytes : List ℕ) (values : List ℤ) (ends : List ℕ) (count from : ℕ) : Type 0 where
   pub bad : length bytes < from → limited (readLines (parts 10 bytes)) ≡ none
-  pub good : from ≤ length bytes → (ps : List (List ℤ)) × Lie ps values places count × (readLines (parts 10 bytes) ≡ behind ps (readLines ([] ∷ parts 10 (drop from bytes))))
+  pub good : from ≤ length bytes
+      → (ps : List (List ℤ)) × Lie ps values ends count × (readLines (parts 10 bytes) ≡ behind ps (readLines ([] ∷ parts 10 (drop from bytes))))
 
 -- the text is read from the bytes behind the empty line
 pub record TextRead (bytes : List ℕ) (text : List ℤ) (n : ℕ) : Type 0 where

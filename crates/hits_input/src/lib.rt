@@ -1,19 +1,19 @@
 // The input of the program `hits`, read into lent arrays. Document 01: Program `hits`.
-ghost use mathlib.Core.Path.{_≡_};
-ghost use Prim.Native.Nat.{_+_, _≤_, _<_};
-ghost use lib.ListN.{length, getD, drop};
 ghost use lib.IntN.{negsuc};
+ghost use Rattle.lists.specs.Prelude.{_≡_, _+_, _≤_, _<_, length, getD, drop};
 ghost use Rattle.hits_input.specs.Input.{readNumber, readLine};
 ghost use Rattle.hits_input.specs.Read.{IsRead};
 ghost use Rattle.hits_input.specs.Steps.{upTo, next, numbers, sizeOf, isThere, stored, Put, PatternsRead, TextRead};
 
-// What the bytes hold: so many patterns, and a text of so many values; or no input that the program takes.
+// What the bytes hold: so many patterns, and a text of so many values; or no input that the program
+// takes.
 pub enum Parsed {
     Good(usize, usize),
     Bad,
 }
 
-// How many pattern lines there are, and where the text's line begins; behind the bytes where there is no such input.
+// How many pattern lines there are, and where the text's line begins; behind the bytes where there
+// is no such input.
 struct Patterns {
     count: usize,
     from: usize,
@@ -47,7 +47,8 @@ fn shifted(size: u64, digit: u8) -> u64
     size * 10 + (digit - 48) as u64
 }
 
-// The size that the digits from a place on tell; above all of 32 bits where it is, and where there are not only digits.
+// The size that the digits from a place on tell; above all of 32 bits where it is, and where there
+// are not only digits.
 fn size_of(part: &[u8], from: usize) -> u64
     requires { ⌜ from ≤ length (now part) ⌝ }
     ensures { λ r. ⌜ r ≡ sizeOf (drop from (now (part .entry))) ⌝ }
@@ -118,7 +119,8 @@ fn put_number(part: &[u8], out: &mut [i32], at: usize) -> bool
     true
 }
 
-// Numbers with one space between, put from a place on; the place behind them, or one behind the array where there is no room or no such numbers.
+// Numbers with one space between, put from a place on; the place behind them, or one behind the
+// array where there is no room or no such numbers.
 fn read_numbers(line: &[u8], out: &mut [i32], at: usize) -> usize
     requires { ⌜ (at ≤ length (now out)) × (length (now line) ≤ 65536) × (length (now out) ≤ 65536) ⌝ }
     ensures { λ r. ⌜ Put (numbers (now (line .entry))) at (now (out .entry)) (now (out .exit)) r ⌝ }
@@ -141,7 +143,8 @@ fn read_numbers(line: &[u8], out: &mut [i32], at: usize) -> usize
     to
 }
 
-// A line's numbers, put from a place on; the place behind them, or one behind the array where there is no room or the line is bad.
+// A line's numbers, put from a place on; the place behind them, or one behind the array where there
+// is no room or the line is bad.
 fn read_line(line: &[u8], out: &mut [i32], at: usize) -> usize
     requires { ⌜ (at ≤ length (now out)) × (length (now line) ≤ 65536) × (length (now out) ≤ 65536) ⌝ }
     ensures { λ r. ⌜ Put (readLine (now (line .entry))) at (now (out .entry)) (now (out .exit)) r ⌝ }
@@ -153,9 +156,9 @@ fn read_line(line: &[u8], out: &mut [i32], at: usize) -> usize
 }
 
 // The pattern lines up to the empty line.
-fn read_patterns(bytes: &[u8], values: &mut [i32], places: &mut [u32]) -> Patterns
-    requires { ⌜ (length (now bytes) ≤ 65536) × (length (now values) ≡ 1023) × (length (now places) ≡ 1023) ⌝ }
-    ensures { λ r. ⌜ PatternsRead (now (bytes .entry)) (now (values .exit)) (now (places .exit)) (r .count) (r .from) ⌝ }
+fn read_patterns(bytes: &[u8], values: &mut [i32], ends: &mut [u32]) -> Patterns
+    requires { ⌜ (length (now bytes) ≤ 65536) × (length (now values) ≡ 1023) × (length (now ends) ≡ 1023) ⌝ }
+    ensures { λ r. ⌜ PatternsRead (now (bytes .entry)) (now (values .exit)) (now (ends .exit)) (r .count) (r .from) ⌝ }
 {
     let n = bytes.len();
     let mut start = 0;
@@ -176,13 +179,14 @@ fn read_patterns(bytes: &[u8], values: &mut [i32], places: &mut [u32]) -> Patter
         if filled > 1023 {
             return Patterns { count, from: n + 1 };
         }
-        places[count] = filled as u32;
+        ends[count] = filled as u32;
         count += 1;
         start = end + 1;
     }
 }
 
-// The text's line, which is the last and ends; how many values it has, more than the array holds where it is bad.
+// The text's line, which is the last and ends; how many values it has, more than the array holds
+// where it is bad.
 fn read_text(bytes: &[u8], from: usize, text: &mut [i32]) -> usize
     requires { ⌜ (from ≤ length (now bytes)) × (length (now bytes) ≤ 65536) × (length (now text) ≡ 32768) ⌝ }
     ensures { λ r. ⌜ TextRead (drop from (now (bytes .entry))) (now (text .exit)) r ⌝ }
@@ -198,15 +202,15 @@ fn read_text(bytes: &[u8], from: usize, text: &mut [i32]) -> usize
 pub fn read_input(
     bytes: &[u8],
     values: &mut [i32; 1023],
-    places: &mut [u32; 1023],
+    ends: &mut [u32; 1023],
     text: &mut [i32; 32768],
 ) -> Parsed
-    ensures { λ r. ⌜ IsRead (now (bytes .entry)) (now (values .exit)) (now (places .exit)) (now (text .exit)) r ⌝ }
+    ensures { λ r. ⌜ IsRead (now (bytes .entry)) (now (values .exit)) (now (ends .exit)) (now (text .exit)) r ⌝ }
 {
     if bytes.len() > 65536 {
         return Parsed::Bad;
     }
-    let p = read_patterns(bytes, values, places);
+    let p = read_patterns(bytes, values, ends);
     if p.from > bytes.len() {
         return Parsed::Bad;
     }

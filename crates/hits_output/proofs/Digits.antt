@@ -1,16 +1,7 @@
 -- Laws of decimal digits: how many a number has, and how they are written from the last one on.
-use mathlib.Core.Path.{_≡_, refl, sym, _∙_, ap}
-use mathlib.Core.Bool.{Bool, true, false}
-use mathlib.Core.List.{List, [], _∷_, _++_}
-use Prim.Native.Nat.{ℕ, zero, suc, _+_, _-_, _/_, _%_, _^_, _≤_, _<_}
-use native.Mathlib.Nat.{pow-suc}
-use native.Mathlib.Numerals.{sub-one}
-use native.Mathlib.Omega.{arith}
-use lib.Dec.{ltb}
-use lib.ListN.{length, take, drop, set}
-use lib.Seq.{length-take-le, drop-at, append-snoc, set-split}
-use borrow.Author.Tests.{ltb-true, ltb-false, lt-ltb, le-ltb}
-use Rattle.lists.proofs.Lists.{length-snoc}
+use Rattle.lists.proofs.Parts.{drop-set, length-snoc}
+use Rattle.lists.proofs.Prelude.{_≡_, _∙_, ap, sym, refl, Bool, true, false, List, [], _∷_, _++_, ℕ, zero, suc, _+_, _-_, _/_, _%_, _^_, _≤_, _<_, ltb, length}
+use Rattle.lists.proofs.Prelude.{drop, set, append-snoc, pow-suc, sub-one, arith, lt-ltb, le-ltb, ltb-false, ltb-true}
 use Rattle.hits_output.specs.Output.{digitsWithin, digits}
 
 -- the last k digits of v, zeros before them where v has fewer
@@ -91,9 +82,6 @@ pub spell-start : (v n : ℕ) (d : List ℕ) → n ≡ length (digits v) → las
 spell-start v n d e =
     ap (λ (k : ℕ). lastDigits k v ++ drop k d) e
     ∙ ap (λ (l : List ℕ). l ++ drop (length (digits v)) d) (sym (digits-last 19 v))
-
-drop-set : (out : List ℕ) (i x : ℕ) → i < length out → drop i (set out i x) ≡ x ∷ drop (suc i) out
-drop-set out i x h = ap (drop i) (set-split out i x h) ∙ drop-at (take i out) (x ∷ drop (suc i) out) i (length-take-le i out (omega arith))
 
 -- one digit more is stored, before those that are
 pub spell-more : (rest i : ℕ) (out t : List ℕ) → 0 < i → i ≤ length out → lastDigits i rest ++ drop i out ≡ t

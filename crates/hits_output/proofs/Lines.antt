@@ -1,13 +1,8 @@
 -- Laws of the lines of hits, and of a buffer that is written from the front.
-use mathlib.Core.Path.{_≡_, refl, sym, _∙_, ap, ap₂}
-use mathlib.Core.List.{List, [], _∷_, _++_, map, flatten, append-nil, append-assoc}
-use Prim.Native.Nat.{ℕ, suc, _+_, _-_, _≤_, _<_}
-use native.Mathlib.Omega.{arith}
-use lib.ListN.{length, getD, take, drop, set, length-drop, length-append, drop-of-length-le}
-use lib.Seq.{take-all, take-at, drop-at, drop-drop, drop-cons, set-at, append-snoc}
-use Rattle.lists.specs.Prelude.{tabulate}
-use Rattle.lists.proofs.Lists.{length-snoc}
-use Rattle.lists.proofs.Members.{map-append, flatten-append}
+use Rattle.lists.proofs.Prelude.{_≡_, _∙_, ap, sym, refl, List, [], _∷_, _++_, map, append-nil, append-assoc, flatten, ℕ, suc, _+_, _-_, length, getD, take}
+use Rattle.lists.proofs.Prelude.{drop, length-append, append-snoc, arith, tabulate}
+use Rattle.lists.proofs.Parts.{map-append, paste}
+use Rattle.lists.proofs.Rows.{flatten-append}
 use Rattle.pattern_set.specs.PatternSet.{PatternSet}
 use Rattle.hits_output.specs.Output.{digits, line, hitLine, hitLines, hitIn, hitsIn}
 
@@ -22,25 +17,11 @@ abbrev pub partFrom : ℕ → List ℕ → List ℕ
 partFrom a w = take (length w - a) (drop a w)
 
 -- the part behind f now begins with v
-paste : (f v d w y : List ℕ) (a : ℕ) → w ≡ f ++ drop (length f) d → a ≡ length f → y ≡ v ++ drop (length v) (partFrom a w) → putBack a w y ≡ (f ++ v) ++ drop (length (f ++ v)) d
-paste f v d w y a e h q =
-    let k = length w - a in
-    let len : length (drop a w) ≤ k = simp length-drop (omega arith) in
-    let hA : take a w ≡ f = ap (take a) e ∙ take-at f (drop (length f) d) a (sym h) in
-    let hB : drop a w ≡ drop (length f) d = ap (drop a) e ∙ drop-at f (drop (length f) d) a (sym h) in
-    let hC : drop k (drop a w) ≡ [] = drop-of-length-le (drop a w) {i = k} len in
-    let hT : take k (drop a w) ≡ drop a w = take-all k (drop a w) len in
-    let hD : drop (length v) (drop (length f) d) ≡ drop (length (f ++ v)) d = drop-drop (length v) (length f) d ∙ ap (λ (n : ℕ). drop n d) (sym (length-append f v)) in
-    let hY : y ≡ v ++ drop (length (f ++ v)) d = q ∙ ap (λ (l : List ℕ). v ++ drop (length v) l) (hT ∙ hB) ∙ ap (λ (l : List ℕ). v ++ l) hD in
-    ap₂ (λ (l r : List ℕ). l ++ r) hA (ap₂ (λ (l r : List ℕ). l ++ r) hY hC ∙ append-nil (v ++ drop (length (f ++ v)) d)) ∙ sym (append-assoc f v (drop (length (f ++ v)) d))
-
--- a byte is stored behind f
-pub put-behind : (f d : List ℕ) (n x : ℕ) → n ≡ length f → n < length d → set (f ++ drop (length f) d) n x ≡ (f ++ (x ∷ [])) ++ drop (length (f ++ (x ∷ []))) d
-put-behind f d n x e h =
-    ap (λ (l : List ℕ). set (f ++ l) n x) (drop-cons d (length f) 0 (omega arith))
-    ∙ set-at f (getD d (length f) 0) (drop (suc (length f)) d) x n (sym e)
-    ∙ sym (append-snoc f x (drop (suc (length f)) d))
-    ∙ ap (λ (k : ℕ). (f ++ (x ∷ [])) ++ drop k d) (sym (length-snoc f x))
+paste-behind : (f v d w y : List ℕ) (a : ℕ) → w ≡ f ++ drop (length f) d → a ≡ length f → y ≡ v ++ drop (length v) (partFrom a w)
+    → putBack a w y ≡ (f ++ v) ++ drop (length (f ++ v)) d
+paste-behind f v d w y a e h q =
+    paste f v d w y a (length v) (length w - a) (sym h) refl (e ∙ ap (λ (n : ℕ). f ++ drop n d) (sym h)) refl q
+    ∙ ap (λ (n : ℕ). (f ++ v) ++ drop n d) (ap (λ (n : ℕ). n + length v) h ∙ sym (length-append f v))
 
 -- ---- a line
 
@@ -68,9 +49,9 @@ line-written place number size a b c d w y z la lw lb ly lc lz =
     let H = digits size ++ (10 ∷ []) in
     let v = putBack a w y in
     let whole : (F ++ G) ++ H ≡ line place number size = line-is place number size in
-    let second : v ≡ (F ++ G) ++ drop (length (F ++ G)) d = paste F G d w y a lw la ly in
+    let second : v ≡ (F ++ G) ++ drop (length (F ++ G)) d = paste-behind F G d w y a lw la ly in
     let ab : a + b ≡ length (F ++ G) = omega (arith, la, lb, length-append F G) in
-    let third = paste (F ++ G) H d v z (a + b) second ab lz in
+    let third = paste-behind (F ++ G) H d v z (a + b) second ab lz in
     let all : a + b + c ≡ length ((F ++ G) ++ H) = omega (arith, ab, lc, length-append (F ++ G) H) in
     (all ∙ ap length whole, third ∙ ap (λ (l : List ℕ). l ++ drop (length l) d) whole)
 
@@ -81,7 +62,8 @@ hitLine-is ps h size e = ap (line (h .0) (h .1)) e
 
 -- ---- the lines of hits
 
-pub lines-start : (ps : PatternSet) (ws d : List ℕ) → (0 ≡ length (hitLines ps (hitsIn ws 0))) × (d ≡ hitLines ps (hitsIn ws 0) ++ drop (length (hitLines ps (hitsIn ws 0))) d)
+pub lines-start : (ps : PatternSet) (ws d : List ℕ)
+    → (0 ≡ length (hitLines ps (hitsIn ws 0))) × (d ≡ hitLines ps (hitsIn ws 0) ++ drop (length (hitLines ps (hitsIn ws 0))) d)
 unfolding hitLines hitsIn tabulate flatten
 lines-start ps ws d = (refl, refl)
 
@@ -100,10 +82,11 @@ lines-more ps ws i =
 pub lines-written : (ps : PatternSet) (ws : List ℕ) (i a n : ℕ) (d w y : List ℕ)
     → a ≡ length (hitLines ps (hitsIn ws i)) → w ≡ hitLines ps (hitsIn ws i) ++ drop (length (hitLines ps (hitsIn ws i))) d
     → n ≡ length (hitLine ps (hitIn ws i)) → y ≡ hitLine ps (hitIn ws i) ++ drop (length (hitLine ps (hitIn ws i))) (partFrom a w)
-    → (a + n ≡ length (hitLines ps (hitsIn ws (i + 1)))) × (putBack a w y ≡ hitLines ps (hitsIn ws (i + 1)) ++ drop (length (hitLines ps (hitsIn ws (i + 1)))) d)
+    → (a + n ≡ length (hitLines ps (hitsIn ws (i + 1)))) ×
+    (putBack a w y ≡ hitLines ps (hitsIn ws (i + 1)) ++ drop (length (hitLines ps (hitsIn ws (i + 1)))) d)
 lines-written ps ws i a n d w y la lw ln ly =
     let F = hitLines ps (hitsIn ws i) in
     let G = hitLine ps (hitIn ws i) in
     let e = lines-more ps ws i in
     let s : a + n ≡ length (F ++ G) = omega (arith, la, ln, length-append F G) in
-    (s ∙ ap length e, paste F G d w y a lw la ly ∙ ap (λ (l : List ℕ). l ++ drop (length l) d) e)
+    (s ∙ ap length e, paste-behind F G d w y a lw la ly ∙ ap (λ (l : List ℕ). l ++ drop (length l) d) e)

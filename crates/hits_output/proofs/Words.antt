@@ -1,10 +1,6 @@
 -- Hits and their words: what is read back of words that begin with those of hits.
-use mathlib.Core.Path.{_≡_, refl, _∙_}
-use mathlib.Core.List.{List, [], _∷_, _++_}
-use Prim.Native.Nat.{ℕ, zero, suc, _+_, _*_, _<_}
-use native.Mathlib.Omega.{arith}
-use lib.ListN.{length, getD}
-use Rattle.lists.proofs.Lists.{tabulate-ext, tabulate-getD}
+use Rattle.lists.proofs.Prelude.{_≡_, _∙_, refl, List, [], _∷_, _++_, ℕ, zero, suc, _+_, _*_, _<_, length, getD, arith}
+use Rattle.lists.proofs.Tables.{tabulate-ext, tabulate-getD}
 use Rattle.matching.specs.Matching.{hitWords}
 use Rattle.hits_output.specs.Output.{hitIn, hitsIn}
 

@@ -1,5 +1,5 @@
 -- What the program `hits` prints of hits and numbers. Document 01: Program `hits`.
-use Rattle.lists.specs.Prelude.{cond, List, [], _∷_, _++_, map, flatten, tabulate, ℕ, zero, suc, _+_, _*_, _/_, _%_, ltb, length, getD}
+use Rattle.lists.specs.Prelude.{cond, List, [], _∷_, _++_, map, flatten, ℕ, zero, suc, _+_, _*_, _/_, _%_, ltb, length, getD, tabulate}
 use Rattle.pattern_set.specs.PatternSet.{PatternSet}
 
 -- a number in decimal, of at most n + 1 digits

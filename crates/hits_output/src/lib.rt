@@ -1,9 +1,7 @@
-// The text that the program `hits` prints for hits, written into a lent buffer. Document 01: Program `hits`.
-ghost use mathlib.Core.Path.{_≡_};
-ghost use mathlib.Core.List.{[], _∷_, _++_};
-ghost use Prim.Native.Nat.{ℕ, _+_, _*_, _≤_, _<_};
-ghost use lib.ListN.{length, getD, drop};
-ghost use Rattle.set_access.specs.Patterns.{patternsOf, Good};
+// The text that the program `hits` prints for hits, written into a lent buffer. Document 01:
+// Program `hits`.
+ghost use Rattle.lists.specs.Prelude.{_≡_, [], _∷_, _++_, ℕ, _+_, _*_, _≤_, _<_, length, getD, drop};
+ghost use Rattle.pattern_set.specs.PatternSet.{patternsOf, IsSet};
 ghost use Rattle.hits_output.specs.Output.{digits, line, hitIn, hitsIn, hitLine, hitLines};
 
 // How many decimal digits v has.
@@ -36,7 +34,8 @@ pub fn write_number(v: u64, out: &mut [u8]) -> usize
     n
 }
 
-// The decimal digits of v and one byte behind them to the front of the buffer; how many bytes they are.
+// The decimal digits of v and one byte behind them to the front of the buffer; how many bytes they
+// are.
 fn write_field(v: u64, mark: u8, out: &mut [u8]) -> usize
     requires { ⌜ 21 ≤ length (now out) ⌝ }
     ensures { λ r. ⌜ (r ≡ length (digits v ++ (mark ∷ []))) × (r ≤ 21) ⌝ }
@@ -60,11 +59,13 @@ fn write_line(place: u64, number: u64, size: u64, out: &mut [u8]) -> usize
 
 // The line of hit i to the front of the buffer; how many bytes it has.
 fn write_hit(set: &[u32], hits: &[u32], i: usize, out: &mut [u8]) -> usize
-    requires { ⌜ Good (now set) ⌝ }
+    requires { ⌜ IsSet (now set) ⌝ }
     requires { ⌜ (2 * i + 1 < length (now hits)) × (getD (now hits) (2 * i + 1) 0 < length (patternsOf (now set))) ⌝ }
     requires { ⌜ 63 ≤ length (now out) ⌝ }
     ensures { λ r. ⌜ (r ≡ length (hitLine (patternsOf (now (set .entry))) (hitIn (now (hits .entry)) i))) × (r ≤ 63) ⌝ }
-    ensures { λ r. ⌜ now (out .exit) ≡ hitLine (patternsOf (now (set .entry))) (hitIn (now (hits .entry)) i) ++ drop (length (hitLine (patternsOf (now (set .entry))) (hitIn (now (hits .entry)) i))) (now (out .entry)) ⌝ }
+    ensures { λ r. ⌜ now (out .exit)
+        ≡ hitLine (patternsOf (now (set .entry))) (hitIn (now (hits .entry)) i)
+        ++ drop (length (hitLine (patternsOf (now (set .entry))) (hitIn (now (hits .entry)) i))) (now (out .entry)) ⌝ }
 {
     let place = hits[2 * i] as u64;
     let number = hits[2 * i + 1] as usize;
@@ -74,11 +75,13 @@ fn write_hit(set: &[u32], hits: &[u32], i: usize, out: &mut [u8]) -> usize
 
 // The lines of the first `count` hits to the front of the buffer; how many bytes they are.
 pub fn write_lines(set: &[u32], hits: &[u32], count: usize, out: &mut [u8]) -> usize
-    requires { ⌜ Good (now set) ⌝ }
+    requires { ⌜ IsSet (now set) ⌝ }
     requires { ⌜ (2 * count ≤ length (now hits)) × ((i : ℕ) → i < count → getD (now hits) (2 * i + 1) 0 < length (patternsOf (now set))) ⌝ }
     requires { ⌜ 63 * count ≤ length (now out) ⌝ }
     ensures { λ r. ⌜ (r ≡ length (hitLines (patternsOf (now (set .entry))) (hitsIn (now (hits .entry)) count))) × (r ≤ 63 * count) ⌝ }
-    ensures { λ r. ⌜ now (out .exit) ≡ hitLines (patternsOf (now (set .entry))) (hitsIn (now (hits .entry)) count) ++ drop (length (hitLines (patternsOf (now (set .entry))) (hitsIn (now (hits .entry)) count))) (now (out .entry)) ⌝ }
+    ensures { λ r. ⌜ now (out .exit)
+        ≡ hitLines (patternsOf (now (set .entry))) (hitsIn (now (hits .entry)) count)
+        ++ drop (length (hitLines (patternsOf (now (set .entry))) (hitsIn (now (hits .entry)) count))) (now (out .entry)) ⌝ }
 {
     let mut at = 0;
     let mut i = 0;

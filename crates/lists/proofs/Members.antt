@@ -1,17 +1,26 @@
--- Laws of lists: who is in a mapped list, and in the tables of a table put end to end.
-use mathlib.Core.Path.{_≡_, refl, sym, _∙_, ap, subst}
-use mathlib.Core.Logic.{_⊎_, inl, inr, _↔_}
-use mathlib.Core.List.{List, [], _∷_, _++_, map, flatten, append-assoc, append-nil, List·Memᴰ, List·Memᴰ·head, List·Memᴰ·tail, List·Memᴰ·not-nil, List·Memᴰ·cases-cons, List·Memᴰ·append-cases, Memᴰ·append-left, Memᴰ·append-right}
-use Prim.Native.Nat.{ℕ, zero, suc, _+_, _≤_, _<_}
-use native.Mathlib.Omega.{arith}
-use native.Mathlib.Decide.{decLt}
-use lib.ListN.{length, getD, take, drop, length-append, take-append-drop}
-use lib.Seq.{take-suc}
-use Rattle.lists.specs.Prelude.{tabulate}
+-- Members of a list: by their places, of mapped lists and tables, and tests of one or all of them.
+use Rattle.lists.proofs.Prelude.{_++_, true, false, _+_, _≡_, _∙_, ap, sym, refl, subst, inl, inr, _⊎_, _↔_, Bool, _||_, List, [], _∷_, map, List·Memᴰ}
+use Rattle.lists.proofs.Prelude.{List·Memᴰ·head, List·Memᴰ·tail, List·Memᴰ·not-nil, List·Memᴰ·cases-cons, ℕ, zero, suc, _<_, T, length, getD, decLt}
+use Rattle.lists.proofs.Prelude.{arith, tabulate, any, all, ap₂}
+use Rattle.lists.proofs.Tests.{T-true, true-T, clash, and-split, and-join, or-cases, or-left, or-right}
+use Rattle.lists.proofs.Tables.{length-tabulate, getD-tabulate}
 
-pub map-append : {A B : Type 0} (f : A → B) (xs ys : List A) → map f (xs ++ ys) ≡ map f xs ++ map f ys
-map-append f [] ys = refl
-map-append {A} {B} f (x ∷ xs) ys = ap (λ (l : List B). f x ∷ l) (map-append f xs ys)
+-- ---- by their places
+
+pub getD-mem : {A : Type 0} (xs : List A) (i : ℕ) (d : A) → i < length xs → List·Memᴰ (getD xs i d) xs
+getD-mem [] i d h = absurd (let z : ⊥ = omega arith in z)
+getD-mem (x ∷ xs) zero d h = List·Memᴰ·head refl
+getD-mem (x ∷ xs) (suc i) d h = List·Memᴰ·tail (getD-mem xs i d (omega arith))
+
+pub mem-getD : {A : Type 0} (xs : List A) (a d : A) → List·Memᴰ a xs → (i : ℕ) × (i < length xs) × (getD xs i d ≡ a)
+mem-getD [] a d m = absurd (List·Memᴰ·not-nil m)
+mem-getD {A} (x ∷ xs) a d m = go (List·Memᴰ·cases-cons m) (mem-getD xs a d)
+  where
+    go : (a ≡ x) ⊎ List·Memᴰ a xs → (List·Memᴰ a xs → (i : ℕ) × (i < length xs) × (getD xs i d ≡ a)) → (i : ℕ) × (i < length (x ∷ xs)) × (getD (x ∷ xs) i d ≡ a)
+    go (inl e) ih = (0, omega arith, sym e)
+    go (inr h) ih = let r = ih h in (suc (r .0), omega (arith, r .1), r .2)
+
+-- ---- of mapped lists and tables
 
 pub mem-map : {A B : Type 0} (f : A → B) (xs : List A) (b : B) → List·Memᴰ b (map f xs) ↔ ((a : A) × List·Memᴰ a xs × (b ≡ f a))
 mem-map {A} {B} f xs b = (from xs, λ m. to xs (m .0) (m .1) (m .2))
@@ -32,49 +41,105 @@ mem-map {A} {B} f xs b = (from xs, λ m. to xs (m .0) (m .1) (m .2))
         go (inl q) ih = List·Memᴰ·head (e ∙ ap f q)
         go (inr h) ih = List·Memᴰ·tail (ih h)
 
-pub flatten-append : {A : Type 0} (xs ys : List (List A)) → flatten (xs ++ ys) ≡ flatten xs ++ flatten ys
-unfolding flatten
-flatten-append [] ys = refl
-flatten-append {A} (x ∷ xs) ys = ap (λ (l : List A). x ++ l) (flatten-append xs ys) ∙ sym (append-assoc x (flatten xs) (flatten ys))
+pub mem-table : {A : Type 0} (n : ℕ) (f : ℕ → A) (d a : A) → List·Memᴰ a (tabulate n f) → (i : ℕ) × (i < n) × (a ≡ f i)
+mem-table n f d a m =
+    let r = mem-getD (tabulate n f) a d m in
+    let l : r .0 < n = omega (arith, r .1, length-tabulate n f) in
+    (r .0, l, sym (r .2) ∙ getD-tabulate n f d (r .0) l)
 
--- one more row at the end
-pub flatten-tabulate : {A : Type 0} (n : ℕ) (f : ℕ → List A) → flatten (tabulate (suc n) f) ≡ flatten (tabulate n f) ++ f n
-unfolding tabulate flatten
-flatten-tabulate {A} n f = flatten-append (tabulate n f) (f n ∷ []) ∙ ap (λ (l : List A). flatten (tabulate n f) ++ l) (append-nil (f n))
+pub table-mem : {A : Type 0} (n : ℕ) (f : ℕ → A) (d : A) (i : ℕ) → i < n → List·Memᴰ (f i) (tabulate n f)
+table-mem {A} n f d i h =
+    subst (λ (a : A). List·Memᴰ a (tabulate n f)) (getD-tabulate n f d i h) (getD-mem (tabulate n f) i d (rw length-tabulate h))
 
-pub mem-flatten-tabulate : {A : Type 0} (n : ℕ) (f : ℕ → List A) (a : A) → List·Memᴰ a (flatten (tabulate n f)) ↔ ((i : ℕ) × (i < n) × List·Memᴰ a (f i))
-unfolding tabulate flatten
-mem-flatten-tabulate {A} n f a = (from n, λ m. to n (m .0) (m .1) (m .2))
+-- the numbers below n
+pub mem-below : (n j : ℕ) → List·Memᴰ j (tabulate n (λ i. i)) ↔ (j < n)
+mem-below n j = (λ m. let r = mem-table n (λ i. i) 0 j m in omega (arith, r .1, r .2), λ h. table-mem n (λ i. i) 0 j h)
+
+-- ---- a test that one passes
+
+pub any-mem : {A : Type 0} (test : A → Bool) (xs : List A) → T (any test xs) → (a : A) × List·Memᴰ a xs × T (test a)
+unfolding any
+any-mem test [] t = absurd t
+any-mem {A} test (x ∷ xs) t = go (or-cases (test x) (any test xs) t) (any-mem test xs)
   where
-    from : (n : ℕ) → List·Memᴰ a (flatten (tabulate n f)) → (i : ℕ) × (i < n) × List·Memᴰ a (f i)
-    from zero m = absurd (List·Memᴰ·not-nil m)
-    from (suc n) m = go (List·Memᴰ·append-cases (flatten (tabulate n f)) (subst (λ (l : List A). List·Memᴰ a l) (flatten-tabulate n f) m)) (from n)
-      where
-        go : List·Memᴰ a (flatten (tabulate n f)) ⊎ List·Memᴰ a (f n) → (List·Memᴰ a (flatten (tabulate n f)) → (i : ℕ) × (i < n) × List·Memᴰ a (f i)) → (i : ℕ) × (i < suc n) × List·Memᴰ a (f i)
-        go (inl h) ih = let r = ih h in (r .0, omega (arith, r .1), r .2)
-        go (inr h) ih = (n, omega arith, h)
+    go : T (test x) ⊎ T (any test xs) → (T (any test xs) → (a : A) × List·Memᴰ a xs × T (test a)) → (a : A) × List·Memᴰ a (x ∷ xs) × T (test a)
+    go (inl h) ih = (x, List·Memᴰ·head refl, h)
+    go (inr h) ih = let r = ih h in (r .0, List·Memᴰ·tail (r .1), r .2)
 
-    to : (n i : ℕ) → i < n → List·Memᴰ a (f i) → List·Memᴰ a (flatten (tabulate n f))
-    to zero i h m = absurd (let z : ⊥ = omega arith in z)
-    to (suc n) i h m = subst (λ (l : List A). List·Memᴰ a l) (sym (flatten-tabulate n f)) (go (decLt i n) (to n i))
-      where
-        go : Dec (i < n) → (i < n → List·Memᴰ a (f i) → List·Memᴰ a (flatten (tabulate n f))) → List·Memᴰ a (flatten (tabulate n f) ++ f n)
-        go (yes l) ih = Memᴰ·append-left (f n) (ih l m)
-        go (no g) ih =
-            let e : i ≡ n = omega arith in
-            Memᴰ·append-right (flatten (tabulate n f)) (subst (λ (k : ℕ). List·Memᴰ a (f k)) e m)
+pub mem-any : {A : Type 0} (test : A → Bool) (xs : List A) (a : A) → List·Memᴰ a xs → T (test a) → T (any test xs)
+unfolding any
+mem-any test [] a m t = absurd (List·Memᴰ·not-nil m)
+mem-any test (x ∷ xs) a m t = go (List·Memᴰ·cases-cons m) (mem-any test xs a)
+  where
+    go : (a ≡ x) ⊎ List·Memᴰ a xs → (List·Memᴰ a xs → T (test a) → T (any test xs)) → T (test x || any test xs)
+    go (inl e) ih = or-left (test x) (any test xs) (subst (λ z. T (test z)) e t)
+    go (inr h) ih = or-right (test x) (any test xs) (ih h t)
 
--- ---- lengths
+pub any-append : {A : Type 0} (test : A → Bool) (xs ys : List A) → any test (xs ++ ys) ≡ any test xs || any test ys
+unfolding any
+any-append test [] ys = refl
+any-append test (x ∷ xs) ys = go (test x) (any-append test xs ys)
+  where
+    go : (b : Bool) → any test (xs ++ ys) ≡ any test xs || any test ys → b || any test (xs ++ ys) ≡ (b || any test xs) || any test ys
+    go true e = refl
+    go false e = e
 
--- the first j rows and row j are the first j + 1 rows
-pub length-flatten-suc : {A : Type 0} (xs : List (List A)) (j : ℕ) → j < length xs → length (flatten (take (suc j) xs)) ≡ length (flatten (take j xs)) + length (getD xs j [])
-unfolding flatten
-length-flatten-suc xs j h =
-    rw (take-suc xs j [] h, flatten-append, append-nil, length-append) refl
+-- ---- a test that all pass
 
--- some rows are no longer than all
-pub length-flatten-take : {A : Type 0} (xs : List (List A)) (j : ℕ) → length (flatten (take j xs)) ≤ length (flatten xs)
-length-flatten-take xs j =
-    let e : length (flatten (take j xs)) + length (flatten (drop j xs)) ≡ length (flatten xs) =
-    sym (length-append (flatten (take j xs)) (flatten (drop j xs))) ∙ ap length (sym (flatten-append (take j xs) (drop j xs)) ∙ ap flatten (take-append-drop j xs)) in
-    omega arith
+pub all-mem : {A : Type 0} (test : A → Bool) (xs : List A) → T (all test xs) → (a : A) → List·Memᴰ a xs → T (test a)
+unfolding all
+all-mem test [] t a m = absurd (List·Memᴰ·not-nil m)
+all-mem test (x ∷ xs) t a m = go (and-split (test x) (all test xs) t) (List·Memᴰ·cases-cons m) (λ h. all-mem test xs h a)
+  where
+    go : T (test x) × T (all test xs) → (a ≡ x) ⊎ List·Memᴰ a xs → (T (all test xs) → List·Memᴰ a xs → T (test a)) → T (test a)
+    go p (inl e) ih = subst (λ z. T (test z)) (sym e) (p .0)
+    go p (inr h) ih = ih (p .1) h
+
+pub mem-all : {A : Type 0} (test : A → Bool) (xs : List A) → ((a : A) → List·Memᴰ a xs → T (test a)) → T (all test xs)
+unfolding all
+mem-all test [] f = tt
+mem-all test (x ∷ xs) f = and-join (test x) (all test xs) (f x (List·Memᴰ·head refl)) (mem-all test xs (λ a m. f a (List·Memᴰ·tail m)))
+
+pub all-getD : {A : Type 0} (test : A → Bool) (xs : List A) (d : A) (j : ℕ) → T (all test xs) → j < length xs → T (test (getD xs j d))
+unfolding all
+all-getD test [] d j t h = absurd (let z : ⊥ = omega arith in z)
+all-getD test (x ∷ xs) d zero t h = and-split (test x) (all test xs) t .0
+all-getD test (x ∷ xs) d (suc j) t h = all-getD test xs d j (and-split (test x) (all test xs) t .1) (omega arith)
+
+-- all numbers below n pass a test
+pub all-below : (test : ℕ → Bool) (n : ℕ) → T (all test (tabulate n (λ i. i))) → (i : ℕ) → i < n → T (test i)
+all-below test n t i h = all-mem test (tabulate n (λ i. i)) t i (mem-below n i .1 h)
+
+pub below-all : (test : ℕ → Bool) (n : ℕ) → ((i : ℕ) → i < n → T (test i)) → T (all test (tabulate n (λ i. i)))
+below-all test n f = mem-all test (tabulate n (λ i. i)) (λ i m. f i (mem-below n i .0 m))
+
+-- ---- the ways through a loop that tests each number below n, in the machine's words
+
+pub below-none : (test : ℕ → Bool) → all test (tabulate 0 (λ i. i)) ≡ true
+unfolding tabulate all
+below-none test = refl
+
+pub below-more : (test : ℕ → Bool) (j : ℕ) → all test (tabulate j (λ i. i)) ≡ true → test j ≡ true → all test (tabulate (j + 1) (λ i. i)) ≡ true
+below-more test j h e = true-T (all test (tabulate (j + 1) (λ i. i))) (below-all test (j + 1) (λ i l. go i l (decLt i j)))
+  where
+    go : (i : ℕ) → i < j + 1 → Dec (i < j) → T (test i)
+    go i l (yes k) = all-below test j (T-true (all test (tabulate j (λ i. i))) h) i k
+    go i l (no f) = let q : j ≡ i = omega arith in T-true (test i) (ap test (sym q) ∙ e)
+
+pub below-fails : (test : ℕ → Bool) (n j : ℕ) → j < n → test j ≡ false → all test (tabulate n (λ i. i)) ≡ false
+below-fails test n j l e = go (all test (tabulate n (λ i. i))) refl
+  where
+    go : (b : Bool) → all test (tabulate n (λ i. i)) ≡ b → b ≡ false
+    go true q = clash (true-T (test j) (all-below test n (T-true (all test (tabulate n (λ i. i))) q) j l)) e
+    go false q = refl
+
+-- functions that agree on the members give the same list
+pub map-ext : {A B : Type 0} (f g : A → B) (xs : List A) → ((a : A) → List·Memᴰ a xs → f a ≡ g a) → map f xs ≡ map g xs
+map-ext f g [] h = refl
+map-ext {A} {B} f g (x ∷ xs) h =
+    ap₂ (λ (y : B) (ys : List B). y ∷ ys) (h x (List·Memᴰ·head refl)) (map-ext f g xs (λ a m. h a (List·Memᴰ·tail m)))
+
+-- one function after the other
+pub map-map : {A B C : Type 0} (f : A → B) (g : B → C) (xs : List A) → map g (map f xs) ≡ map (λ a. g (f a)) xs
+map-map f g [] = refl
+map-map {A} {B} {C} f g (x ∷ xs) = ap (λ (ys : List C). g (f x) ∷ ys) (map-map f g xs)

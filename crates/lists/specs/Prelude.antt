@@ -1,4 +1,5 @@
--- What all definitions are written with: the library's symbols, under their own names and with their own meaning, and a few functions on lists.
+-- What all definitions are written with: the library's symbols, under their own names and with
+-- their own meaning, and a few functions on lists.
 pub use mathlib.Core.Path.{_≡_}
 pub use mathlib.Core.Bool.{Bool, true, false, cond, not, _&&_, _||_}
 pub use mathlib.Core.Option.{Option, none, some}

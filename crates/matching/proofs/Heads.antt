@@ -1,21 +1,14 @@
--- Heads are closed under shortening, and the suffixes of a text that have the tree of some head are a chain that the failure links enumerate:
--- a tail of a head is a suffix of every text that ends with the head's tree.
-use mathlib.Core.Path.{_≡_, refl, sym, _∙_, ap, ap₂, subst}
-use mathlib.Core.Bool.{Bool, true, false, cond}
-use mathlib.Core.Logic.{_↔_}
-use mathlib.Core.List.{List, [], _∷_, _++_, map}
-use Prim.Native.Nat.{ℕ, zero, suc, pred, _+_, _-_, _≤_, _<_, min}
-use native.Mathlib.Omega.{arith}
-use native.Mathlib.Nat.{le-refl}
-use native.Mathlib.Decide.{decLt}
-use lib.Dec.{T, eqb·suc-zero}
-use lib.IntN.{ℤ, pos}
-use lib.ListN.{length, getD, take, drop, length-take, drop-of-length-le}
-use lib.Seq.{take-take, take-all, take-nil}
-use Rattle.lists.specs.Prelude.{any, all, begins, same, lastBelow, lastOf}
-use Rattle.lists.proofs.Order.{T-true, true-T}
-use Rattle.lists.proofs.Lists.{any-mem, mem-any, all-mem, any-ext, test-ext, same-eq, eq-same, length-lastOf, lastOf-lastOf, lastOf-all, lastBelow-ext, lastBelow-le, lastBelow-passes, lastBelow-is, lastBelow-none}
-use Rattle.cartesian.specs.Cartesian.{Tree, leaf, treeWithin, tree, sameTree, distances, treeOfWithin, treeOf}
+-- Heads are closed under shortening, and the suffixes of a text that have the tree of some head are
+-- a chain that the failure links enumerate: a tail of a head is a suffix of every text that ends
+-- with the head's tree.
+use Rattle.lists.proofs.Same.{begins-shorter, same-eq, eq-same}
+use Rattle.lists.proofs.Prelude.{_≡_, _∙_, ap, sym, refl, subst, _↔_, Bool, true, false, cond, List, [], _∷_, map, ℕ, zero, suc, pred, _-_, _≤_, _<_, ℤ, T}
+use Rattle.lists.proofs.Prelude.{eqb·suc-zero, length, take, drop-of-length-le, le-refl, arith, lastOf, begins, lastBelow, any, all}
+use Rattle.lists.proofs.Tests.{true-T, test-ext}
+use Rattle.lists.proofs.Members.{any-mem, mem-any, all-mem}
+use Rattle.lists.proofs.Parts.{length-lastOf, lastOf-lastOf}
+use Rattle.lists.proofs.LastBelow.{lastBelow-ext, lastBelow-le, lastBelow-passes, lastBelow-none}
+use Rattle.cartesian.specs.Cartesian.{treeWithin, tree, sameTree, distances, treeOfWithin, treeOf}
 use Rattle.cartesian.specs.Windows.{suffixDistances}
 use Rattle.cartesian.proofs.Seek.{length-distances}
 use Rattle.cartesian.proofs.ByList.{distances-take}
@@ -24,7 +17,7 @@ use Rattle.cartesian.proofs.Window.{distances-lastOf}
 use Rattle.cartesian.proofs.TreeOf.{treeOf-distances}
 use Rattle.realization.specs.Realization.{Realizable, realizable, leastRealization}
 use Rattle.realization.proofs.Realizable.{realizable-iff}
-use Rattle.realization.proofs.LeastRealization.{least-distances, length-least}
+use Rattle.realization.proofs.LeastRealization.{least-distances}
 use Rattle.pattern_set.specs.PatternSet.{PatternSet}
 use Rattle.matching.specs.Matching.{hasTree, isHead, headTree, failure, chainWithin, chain}
 use Rattle.matching.specs.HeadLengths.{headLengths}
@@ -41,17 +34,6 @@ realizable-take n ds h =
 pub distances-realizable : (xs : List ℤ) → T (realizable (distances xs))
 unfolding Realizable
 distances-realizable xs = realizable-iff (distances xs) .1 (xs, refl)
-
-begins-shorter : (p h : List ℕ) (n : ℕ) → T (begins p h) → T (begins p (take n h))
-begins-shorter p h n t =
-    let e = same-eq (take (length h) p) h t in
-    eq-same (take (length (take n h)) p) (take n h)
-    (sym (take-take (length (take n h)) (length h) p (rw length-take (omega arith))) ∙ ap (take (length (take n h))) e ∙ go h n)
-  where
-    go : (h : List ℕ) (n : ℕ) → take (length (take n h)) h ≡ take n h
-    go [] n = simp take-nil
-    go (x ∷ h) zero = refl
-    go (x ∷ h) (suc n) = ap (λ (l : List ℕ). x ∷ l) (go h n)
 
 -- HEADS ARE CLOSED UNDER SHORTENING
 pub head-shorter : (ps : PatternSet) (h : List ℕ) (n : ℕ) → T (isHead ps h) → T (isHead ps (take n h))
@@ -85,7 +67,8 @@ headTree-isHead ps w g =
     (λ t.
     let r = any-mem (λ p. begins p (distances w)) ps t in
     let z = realizable-take (length w) (r .0) (all-mem realizable ps g (r .0) (r .1)) in
-    let e : take (length w) (r .0) ≡ distances w = subst (λ (k : ℕ). take k (r .0) ≡ distances w) (length-distances w) (same-eq (take (length (distances w)) (r .0)) (distances w) (r .2)) in
+    let e : take (length w) (r .0) ≡ distances w =
+    subst (λ (k : ℕ). take k (r .0) ≡ distances w) (length-distances w) (same-eq (take (length (distances w)) (r .0)) (distances w) (r .2)) in
     mem-any (λ p. hasTree w (take (length w) p)) ps (r .0) (r .1)
     (hasTree-iff w (take (length w) (r .0)) z .1 (sym e)))
 
@@ -107,18 +90,22 @@ longestBelow ps text n = pred (lastBelow (λ m. headTree ps (lastOf m text)) n)
 suffix-same : (v w : List ℤ) (m : ℕ) → distances v ≡ distances w → distances (lastOf m v) ≡ distances (lastOf m w)
 suffix-same v w m e = distances-lastOf m v ∙ ap (suffixDistances m) e ∙ sym (distances-lastOf m w)
 
--- THE FAILURE LINK of the head that a suffix of the text has leads to the next shorter suffix that has one
-pub failure-next : (ps : PatternSet) (text : List ℤ) (n : ℕ) → n ≤ length text → failure ps (distances (lastOf n text)) ≡ distances (lastOf (longestBelow ps text n) text)
+-- THE FAILURE LINK of the head that a suffix of the text has leads to the next shorter suffix that
+-- has one
+pub failure-next : (ps : PatternSet) (text : List ℤ) (n : ℕ) → n ≤ length text
+    → failure ps (distances (lastOf n text)) ≡ distances (lastOf (longestBelow ps text n) text)
 unfolding failure
 failure-next ps text n h =
     let w = lastOf n text in
     let xs = leastRealization (distances w) in
     let e : distances xs ≡ distances w = least-distances (distances w) (distances-realizable w) in
     let l : length (distances w) ≡ n = length-distances w ∙ length-lastOf n text h in
-    let same-below : (m : ℕ) → m ≤ n → distances (lastOf m xs) ≡ distances (lastOf m text) = λ m k. suffix-same xs w m e ∙ ap distances (lastOf-lastOf m n text k) in
+    let same-below : (m : ℕ) → m ≤ n → distances (lastOf m xs) ≡ distances (lastOf m text) =
+    λ m k. suffix-same xs w m e ∙ ap distances (lastOf-lastOf m n text k) in
     let f : lastBelow (λ m. headTree ps (lastOf m xs)) (length (distances w)) ≡ lastBelow (λ m. headTree ps (lastOf m text)) n =
     ap (lastBelow (λ m. headTree ps (lastOf m xs))) l
-    ∙ lastBelow-ext (λ m. headTree ps (lastOf m xs)) (λ m. headTree ps (lastOf m text)) n (λ m k. headTree-same ps (lastOf m xs) (lastOf m text) (same-below m (omega arith))) in
+    ∙ lastBelow-ext (λ m. headTree ps (lastOf m xs)) (λ m. headTree ps (lastOf m text)) n
+    (λ m k. headTree-same ps (lastOf m xs) (lastOf m text) (same-below m (omega arith))) in
     ap (λ (m : ℕ). distances (lastOf (pred m) xs)) f
     ∙ same-below (longestBelow ps text n) (below (lastBelow (λ m. headTree ps (lastOf m text)) n) (lastBelow-le (λ m. headTree ps (lastOf m text)) n))
   where
@@ -128,15 +115,18 @@ failure-next ps text n h =
 -- ---- the chain
 
 -- the longest suffix shorter than a non-empty one has some head: the empty one at least
-empty-head : (ps : PatternSet) (text : List ℤ) → T (headTree ps (lastOf 0 text)) → (n : ℕ) → 0 < n → (q : ℕ) × (lastBelow (λ m. headTree ps (lastOf m text)) n ≡ suc q)
+empty-head : (ps : PatternSet) (text : List ℤ) → T (headTree ps (lastOf 0 text)) → (n : ℕ) → 0 < n
+    → (q : ℕ) × (lastBelow (λ m. headTree ps (lastOf m text)) n ≡ suc q)
 empty-head ps text t n h = go (lastBelow (λ m. headTree ps (lastOf m text)) n) refl
   where
     go : (k : ℕ) → lastBelow (λ m. headTree ps (lastOf m text)) n ≡ k → (q : ℕ) × (lastBelow (λ m. headTree ps (lastOf m text)) n ≡ suc q)
-    go zero e = absurd (lastBelow-none (λ m. headTree ps (lastOf m text)) n 0 (let z : lastBelow (λ m. headTree ps (lastOf m text)) n ≤ 0 = omega arith in z) h t)
+    go zero e =
+        absurd (lastBelow-none (λ m. headTree ps (lastOf m text)) n 0 (let z : lastBelow (λ m. headTree ps (lastOf m text)) n ≤ 0 = omega arith in z) h t)
     go (suc q) e = (q, e)
 
 -- the lengths of at most n begin with the longest of them
-headLengths-from : (ps : PatternSet) (text : List ℤ) (n q : ℕ) → lastBelow (λ m. headTree ps (lastOf m text)) (suc n) ≡ suc q → headLengths ps text n ≡ headLengths ps text q
+headLengths-from : (ps : PatternSet) (text : List ℤ) (n q : ℕ) → lastBelow (λ m. headTree ps (lastOf m text)) (suc n) ≡ suc q
+    → headLengths ps text n ≡ headLengths ps text q
 unfolding headLengths lastBelow
 headLengths-from ps text zero q e = go (headTree ps (lastOf 0 text)) e
   where
@@ -170,12 +160,16 @@ chain-within ps text z (suc k) (suc n) l h t =
     let r = empty-head ps text z (suc n) (omega arith) in
     let q = r .0 in
     let b = lastBelow-le (λ m. headTree ps (lastOf m text)) (suc n) in
-    let f : failure ps (distances (lastOf (suc n) text)) ≡ distances (lastOf q text) = failure-next ps text (suc n) h ∙ ap (λ (m : ℕ). distances (lastOf (pred m) text)) (r .1) in
+    let f : failure ps (distances (lastOf (suc n) text)) ≡ distances (lastOf q text) =
+    failure-next ps text (suc n) h ∙ ap (λ (m : ℕ). distances (lastOf (pred m) text)) (r .1) in
     let ih = chain-within ps text z k q (omega (arith, r .1)) (omega (arith, r .1)) (lastBelow-passes (λ m. headTree ps (lastOf m text)) (suc n) q (r .1)) in
-    rw (length-distances (lastOf (suc n) text), length-lastOf (suc n) text h, eqb·suc-zero n, true-T (headTree ps (lastOf (suc n) text)) t, headLengths-from ps text n q (r .1), f)
-    (ap (λ (l : List (List ℕ)). distances (lastOf (suc n) text) ∷ l) ih)
+    let tail = lastOf (suc n) text in
+    let is = true-T (headTree ps tail) t in
+    rw (length-distances tail, length-lastOf (suc n) text h, eqb·suc-zero n, is, headLengths-from ps text n q (r .1), f)
+    (ap (λ (l : List (List ℕ)). distances tail ∷ l) ih)
 
--- THE CHAIN: the suffixes of a text, of at most n values, that have the tree of some head are those that the failure links enumerate, from the one of n values on
+-- THE CHAIN: the suffixes of a text, of at most n values, that have the tree of some head are those
+-- that the failure links enumerate, from the one of n values on
 pub chain-is : (ps : PatternSet) (text : List ℤ) (n : ℕ) → 0 < length ps → n ≤ length text → T (headTree ps (lastOf n text))
     → chain ps (distances (lastOf n text)) ≡ map (λ m. distances (lastOf m text)) (headLengths ps text n)
 chain-is ps text n g h t =

@@ -1,9 +1,6 @@
--- The words of a list of hits: two a hit, and of lists one after the other the words one after the other.
-use mathlib.Core.Path.{_≡_, refl, ap}
-use mathlib.Core.List.{List, [], _∷_, _++_}
-use Prim.Native.Nat.{ℕ, _*_}
-use native.Mathlib.Omega.{arith}
-use lib.ListN.{length}
+-- The words of a list of hits: two a hit, and of lists one after the other the words one after the
+-- other.
+use Rattle.lists.proofs.Prelude.{_≡_, ap, refl, List, [], _∷_, _++_, ℕ, _*_, length, arith}
 use Rattle.matching.specs.Matching.{hitWords}
 
 pub length-hitWords : (hs : List (ℕ × ℕ)) → length (hitWords hs) ≡ 2 * length hs

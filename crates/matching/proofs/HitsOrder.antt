@@ -1,25 +1,22 @@
--- The hits are in order: by last place, then longer pattern first, then lower number. Tables are put end to end by last place, windows of one last place by falling length, and the patterns with the tree of one window are all as long as it and come by number.
-use mathlib.Core.Path.{_≡_, refl, sym, _∙_, ap, subst}
-use mathlib.Core.Bool.{Bool, true, false, cond}
-use mathlib.Core.Logic.{_⊎_, inl, inr}
-use mathlib.Core.List.{List, [], _∷_, _++_, map, flatten, List·Memᴰ, List·Memᴰ·head, List·Memᴰ·tail, List·Memᴰ·append-cases}
-use Prim.Native.Nat.{ℕ, zero, suc, _+_, _≤_, _<_}
-use native.Mathlib.Omega.{arith}
-use native.Mathlib.Nat.{add-zero, zero-add, le-refl}
-use lib.IntN.{ℤ}
-use lib.ListN.{length, getD, take}
-use Rattle.lists.specs.Prelude.{tabulate, lastOf}
-use Rattle.lists.proofs.Lists.{length-lastOf}
-use Rattle.lists.proofs.Order.{T-true}
+-- The hits are in order: by last place, then longer pattern first, then lower number. Tables are
+-- put end to end by last place, windows of one last place by falling length, and the patterns with
+-- the tree of one window are all as long as it and come by number.
+use Rattle.lists.proofs.Prelude.{_≡_, _∙_, ap, sym, refl, subst, inl, inr, _⊎_, Bool, true, false, cond, List, [], _∷_, _++_, map, List·Memᴰ, List·Memᴰ·head}
+use Rattle.lists.proofs.Prelude.{List·Memᴰ·tail, List·Memᴰ·append-cases, flatten, ℕ, zero, suc, _+_, _≤_, _<_, ℤ, length, getD, take, le-refl, add-zero}
+use Rattle.lists.proofs.Prelude.{zero-add, arith, lastOf, tabulate}
+use Rattle.lists.proofs.Parts.{length-lastOf, map-append}
+use Rattle.lists.proofs.Tests.{T-true}
+use Rattle.lists.proofs.Members.{mem-map}
+use Rattle.lists.proofs.Rows.{flatten-tabulate, mem-flatten-tabulate}
 use Rattle.pattern_set.specs.PatternSet.{PatternSet}
 use Rattle.matching.specs.Matching.{hasTree, numbersFrom, endHits, lastHits, hitsAt, hits}
 use Rattle.matching.specs.HitOrder.{patternLength, Before, Ordered}
-use Rattle.lists.proofs.Members.{map-append, mem-map, flatten-tabulate, mem-flatten-tabulate}
 use Rattle.matching.proofs.Sizes.{hasTree-length}
 use Rattle.matching.proofs.HitsIff.{numbersFrom-mem, endHits-mem}
 
 -- two ordered lists, all of the first before all of the second
-ordered-append : (ps : PatternSet) (hs gs : List (ℕ × ℕ)) → Ordered ps hs → Ordered ps gs → ((h g : ℕ × ℕ) → List·Memᴰ h hs → List·Memᴰ g gs → Before ps h g) → Ordered ps (hs ++ gs)
+ordered-append : (ps : PatternSet) (hs gs : List (ℕ × ℕ)) → Ordered ps hs → Ordered ps gs
+    → ((h g : ℕ × ℕ) → List·Memᴰ h hs → List·Memᴰ g gs → Before ps h g) → Ordered ps (hs ++ gs)
 unfolding Ordered
 ordered-append ps [] gs a b f = b
 ordered-append ps (h ∷ hs) gs a b f = (
@@ -36,13 +33,16 @@ abbrev at : ℕ → List ℕ → List (ℕ × ℕ)
 at p js = map (λ j. (p, j)) js
 
 -- a hit of such a list, by its number
-at-before : (ps : PatternSet) (p i : ℕ) (js : List ℕ) → ((j : ℕ) → List·Memᴰ j js → Before ps (p, i) (p, j)) → (g : ℕ × ℕ) → List·Memᴰ g (at p js) → Before ps (p, i) g
+at-before : (ps : PatternSet) (p i : ℕ) (js : List ℕ) → ((j : ℕ) → List·Memᴰ j js → Before ps (p, i) (p, j)) → (g : ℕ × ℕ) → List·Memᴰ g (at p js)
+    → Before ps (p, i) g
 at-before ps p i js f g m =
     let r = mem-map {B = ℕ × ℕ} (λ j. (p, j)) js g .0 m in
     subst (λ (h : ℕ × ℕ). Before ps (p, i) h) (sym (r .2)) (f (r .0) (r .1))
 
--- one window: its patterns are equally long, and their numbers go up; qs are the patterns from number i on
-numbers-ordered : (ps : PatternSet) (window : List ℤ) (p i : ℕ) (qs : PatternSet) → ((k : ℕ) → k < length qs → getD ps (i + k) [] ≡ getD qs k []) → Ordered ps (at p (numbersFrom i window qs))
+-- one window: its patterns are equally long, and their numbers go up; qs are the patterns from
+-- number i on
+numbers-ordered : (ps : PatternSet) (window : List ℤ) (p i : ℕ) (qs : PatternSet) → ((k : ℕ) → k < length qs → getD ps (i + k) [] ≡ getD qs k [])
+    → Ordered ps (at p (numbersFrom i window qs))
 unfolding numbersFrom Ordered Before
 numbers-ordered ps window p i [] part = tt
 numbers-ordered ps window p i (q ∷ qs) part =
@@ -52,7 +52,8 @@ numbers-ordered ps window p i (q ∷ qs) part =
     shift : (k : ℕ) → suc i + k ≡ i + suc k
     shift k = omega arith
 
-    go : (b : Bool) → hasTree window q ≡ b → Ordered ps (at p (numbersFrom (suc i) window qs)) → Ordered ps (at p (cond b (i ∷ numbersFrom (suc i) window qs) (numbersFrom (suc i) window qs)))
+    go : (b : Bool) → hasTree window q ≡ b → Ordered ps (at p (numbersFrom (suc i) window qs))
+        → Ordered ps (at p (cond b (i ∷ numbersFrom (suc i) window qs) (numbersFrom (suc i) window qs)))
     go true e ih = (at-before ps p i (numbersFrom (suc i) window qs) later, ih)
       where
         here : patternLength ps i ≡ length window
@@ -64,7 +65,10 @@ numbers-ordered ps window p i (q ∷ qs) part =
         later : (j : ℕ) → List·Memᴰ j (numbersFrom (suc i) window qs) → Before ps (p, i) (p, j)
         later j m =
             let r = numbersFrom-mem (suc i) window qs j m in
-            let there : patternLength ps j ≡ length window = ap (λ (n : ℕ). patternLength ps n) (r .1 ∙ shift (r .0)) ∙ ap length (part (suc (r .0)) (omega (arith, r .2))) ∙ sym (hasTree-length window (getD qs (r .0) []) (r .3)) in
+            let there : patternLength ps j ≡ length window =
+            ap (λ (n : ℕ). patternLength ps n) (r .1 ∙ shift (r .0))
+            ∙ ap length (part (suc (r .0)) (omega (arith, r .2)))
+            ∙ sym (hasTree-length window (getD qs (r .0) []) (r .3)) in
             inr (refl, inr (here ∙ sym there, omega (arith, r .1)))
     go false e ih = ih
 
@@ -90,7 +94,8 @@ endHits-ordered ps text p (suc n) h =
     longer i j a b =
         let r = endHits-mem ps text n j b in
         let li : patternLength ps i ≡ suc n = numbers-length ps (lastOf (suc n) text) i a ∙ length-lastOf (suc n) text h in
-        let lj : patternLength ps j ≡ suc (r .0) = numbers-length ps (lastOf (suc (r .0)) text) j (r .2) ∙ length-lastOf (suc (r .0)) text (omega (arith, r .1)) in
+        let lj : patternLength ps j ≡ suc (r .0) =
+        numbers-length ps (lastOf (suc (r .0)) text) j (r .2) ∙ length-lastOf (suc (r .0)) text (omega (arith, r .1)) in
         omega (arith, li, lj, r .1)
 
     between : (x y : ℕ × ℕ) → List·Memᴰ x (at p (numbersFrom 0 (lastOf (suc n) text) ps)) → List·Memᴰ y (at p (endHits ps text n)) → Before ps x y

@@ -1,8 +1,11 @@
--- Search hits, by trees of windows; heads of patterns, and the failure of a head. Document 01: Hits of R; the order of a search's list; A ladder, its rungs and their falls.
-use Rattle.lists.specs.Prelude.{Bool, cond, List, [], _∷_, _++_, map, flatten, ℕ, zero, suc, pred, eqb, ℤ, length, take, tabulate, lastBelow, lastOf, any, begins}
+-- Search hits, by trees of windows; heads of patterns, and the failure of a head. Document 01: Hits
+-- of R; the order of a search's list; A ladder, its rungs and their falls.
+use Rattle.lists.specs.Prelude.{Bool, cond, _&&_, List, [], _∷_, _++_, map, flatten, ℕ, zero, suc, pred, min, eqb, leb, ℤ, length, take, tabulate, lastBelow}
+use Rattle.lists.specs.Prelude.{lastOf, any, select, begins}
 use Rattle.cartesian.specs.Cartesian.{tree, sameTree, treeOf, distances}
 use Rattle.pattern_set.specs.PatternSet.{PatternSet}
 use Rattle.realization.specs.Realization.{leastRealization}
+use Rattle.fingerprint.specs.Fingerprint.{fingerprint}
 
 -- ---- Search hits, by trees of windows. Document 01: Hits of R; the order of a search's list.
 
@@ -10,13 +13,14 @@ use Rattle.realization.specs.Realization.{leastRealization}
 unfoldable pub hasTree : List ℤ → List ℕ → Bool
 hasTree window p = sameTree (tree window) (treeOf p)
 
--- the numbers of the patterns, the first of which has number j, that have the tree of the window, lower number first
+-- the numbers of the patterns, the first of which has number j, that have the tree of the window,
+-- lower number first
 unfoldable pub numbersFrom : ℕ → List ℤ → PatternSet → List ℕ
 numbersFrom j window [] = []
-numbersFrom j window (p ∷ ps) =
-    cond (hasTree window p) (j ∷ numbersFrom (suc j) window ps) (numbersFrom (suc j) window ps)
+numbersFrom j window (p ∷ ps) = cond (hasTree window p) (j ∷ numbersFrom (suc j) window ps) (numbersFrom (suc j) window ps)
 
--- the numbers of the patterns that have the tree of one of the windows of at most n values at the end of the text, longer window first
+-- the numbers of the patterns that have the tree of one of the windows of at most n values at the
+-- end of the text, longer window first
 unfoldable pub endHits : PatternSet → List ℤ → ℕ → List ℕ
 endHits ps text zero = []
 endHits ps text (suc n) = numbersFrom 0 (lastOf (suc n) text) ps ++ endHits ps text n
@@ -29,7 +33,8 @@ lastHits ps text = endHits ps text (length text)
 unfoldable pub hitsAt : PatternSet → List ℤ → ℕ → List (ℕ × ℕ)
 hitsAt ps text p = map (λ j. (p, j)) (lastHits ps (take (suc p) text))
 
--- the hits of a text: last place and pattern number; by last place, longer pattern first, then lower number
+-- the hits of a text: last place and pattern number; by last place, longer pattern first, then
+-- lower number
 unfoldable pub hits : PatternSet → List ℤ → List (ℕ × ℕ)
 hits ps text = flatten (tabulate (length text) (hitsAt ps text))
 
@@ -38,7 +43,8 @@ unfoldable pub hitWords : List (ℕ × ℕ) → List ℕ
 hitWords [] = []
 hitWords (h ∷ hs) = h .0 ∷ h .1 ∷ hitWords hs
 
--- ---- Heads of patterns, and the failure of a head. Document 01: A ladder, its rungs and their falls.
+-- ---- Heads of patterns, and the failure of a head. Document 01: A ladder, its rungs and their
+-- falls.
 
 -- is h a head of some pattern
 unfoldable pub isHead : PatternSet → List ℕ → Bool
@@ -48,11 +54,10 @@ isHead ps h = any (λ p. begins p h) ps
 unfoldable pub headTree : PatternSet → List ℤ → Bool
 headTree ps window = any (λ p. hasTree window (take (length window) p)) ps
 
--- the head that the failure link of a head leads to: the distances of its longest proper tail that has the tree of some head
+-- the head that the failure link of a head leads to: the distances of its longest proper tail that
+-- has the tree of some head
 unfoldable pub failure : PatternSet → List ℕ → List ℕ
-failure ps h =
-    let xs = leastRealization h in
-    distances (lastOf (pred (lastBelow (λ m. headTree ps (lastOf m xs)) (length h))) xs)
+failure ps h = distances (lastOf (pred (lastBelow (λ m. headTree ps (lastOf m (leastRealization h))) (length h))) (leastRealization h))
 
 -- a head and the heads that its failure links lead to, one after the other, down to the empty one
 unfoldable pub chainWithin : ℕ → PatternSet → List ℕ → List (List ℕ)
@@ -61,3 +66,19 @@ chainWithin (suc n) ps h = h ∷ cond (eqb (length h) 0) [] (chainWithin n ps (f
 
 abbrev pub chain : PatternSet → List ℕ → List (List ℕ)
 chain ps h = chainWithin (length h) ps h
+
+-- ---- The candidates of a filter search. Document 01: A tail search.
+
+-- the length of the shortest pattern, or bound where that is smaller
+unfoldable pub shortest : ℕ → PatternSet → ℕ
+shortest bound [] = bound
+shortest bound (p ∷ ps) = shortest (min bound (length p)) ps
+
+-- is the pattern a candidate at the end of the text: its window lies within it, and their last b
+-- values have one fingerprint
+unfoldable pub isCandidate : ℕ → List ℤ → List ℕ → Bool
+isCandidate b text p = leb (length p) (length text) && eqb (fingerprint (lastOf b text)) (fingerprint (lastOf b (leastRealization p)))
+
+-- the candidates of a text, one for each last place and pattern
+unfoldable pub candidates : PatternSet → List ℤ → ℕ
+candidates ps text = length (flatten (tabulate (length text) (λ p. select (isCandidate (shortest 17 ps) (take (suc p) text)) ps)))

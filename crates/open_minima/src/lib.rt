@@ -1,26 +1,124 @@
-// The ring of open minima of a search state, in arrays that the caller lends: one value pushed, and the check of a state that a caller hands in.
-ghost use mathlib.Core.Path.{_≡_};
-ghost use mathlib.Core.Bool.{true, cond};
-ghost use Prim.Native.Nat.{ℕ, _+_, _%_, _≤_, _<_};
-ghost use lib.Dec.{leb};
-ghost use lib.ListN.{length, getD, set};
-ghost use lib.IntN.{pos};
-ghost use lib.Signed.{leZ};
-ghost use Rattle.model.specs.Search.{goodMinima};
-ghost use Rattle.open_minima.specs.Parts.{stateOf, placeIn, minimaIn, between, IsRing, keptIn, backFrom, follows, inOrder, IsPushed};
+// The ring of open minima of a search state, in arrays that the caller lends: one value pushed, and
+// the check of a ring that a caller hands in. The open minima have the counters from `first` on to
+// before `next`, the oldest first; counter c lies in slot c mod 256. So a ring of 256 differs from
+// an empty one, in which both counters are the same.
+ghost use Rattle.lists.specs.Prelude.{_≡_, true, cond, _&&_, ℕ, _+_, _-_, _%_, _≤_, _<_, leb, ltb, pos, leZ, length, getD, set};
+ghost use Rattle.search_model.specs.Ring.{placeAt, goodRing};
+ghost use Rattle.open_minima.specs.Parts.{ringAt, ringFrom, AreCounters, follows, inOrder, IsKept, IsPushed};
 use answers::SearchState;
 
-// What a push answers: the slots where the ring starts and behind its newest open minimum, and the distance of the value pushed.
+// What a push answers: the counters of the oldest open minimum and behind the newest, and the
+// distance of the value pushed.
 pub struct Pushed {
     pub first: usize,
     pub next: usize,
     pub distance: u32,
 }
 
-// The slot behind the newest open minimum that is kept, and the distance to it, 0 where none is.
+// The counter behind the newest open minimum that is kept, and the distance to it, 0 where none is.
 struct Kept {
     at: usize,
     distance: u32,
+}
+
+// Is the value in the slot of a counter not above value i of the call.
+fn not_above(heights: &[i32; 256], counter: usize, values: &[i32], i: usize) -> bool
+    requires { ⌜ i < length (now values) ⌝ }
+    ensures { λ r. ⌜ r ≡ leZ (getD (now (heights .entry)) (counter % 256) (pos 0)) (getD (now (values .entry)) i (pos 0)) ⌝ }
+{
+    heights[counter % 256] <= values[i]
+}
+
+// 1 where the open minimum of the place is not among the last 256 values any more once the next is
+// taken, 0 where it is. A branch would be hard to predict.
+fn is_old(place: u32, taken: u32) -> usize
+    ensures { λ r. ⌜ r ≡ cond (leb (place + 256) taken) 1 0 ⌝ }
+{
+    if place as usize + SearchState::WINDOW <= taken as usize {
+        1
+    } else {
+        0
+    }
+}
+
+// The counter of the oldest open minimum once the one that is too old is dropped.
+fn drop_oldest(places: &[u32; 256], first: usize, next: usize, taken: u32) -> usize
+    requires { ⌜ AreCounters taken first next ⌝ }
+    ensures { λ r. ⌜ r ≡ first + cond (ltb first next && leb (getD (now (places .entry)) (first % 256) 0 + 256) taken) 1 0 ⌝ }
+{
+    if first >= next {
+        return first;
+    }
+    first + is_old(places[first % 256], taken)
+}
+
+// Closes the open minima above value i of the call, from the newest down.
+fn keep(
+    places: &[u32; 256],
+    heights: &[i32; 256],
+    start: usize,
+    next: usize,
+    taken: u32,
+    values: &[i32],
+    i: usize,
+) -> Kept
+    requires { ⌜ (start ≤ next) × (i < length (now values)) ⌝ }
+    requires { ⌜ ((j : ℕ) → j < next - start → placeAt (ringFrom start next (now places) (now heights)) j < taken) ⌝ }
+    ensures { λ r. ⌜ IsKept taken start (ringFrom start next (now (places .entry)) (now (heights .entry))) (getD (now (values .entry)) i (pos 0)) r ⌝ }
+{
+    let mut at = next;
+    while at > start {
+        let newest = at - 1;
+        if not_above(heights, newest, values, i) {
+            return Kept {
+                at,
+                distance: taken - places[newest % 256],
+            };
+        }
+        at = newest;
+    }
+    Kept { at, distance: 0 }
+}
+
+fn store_place(places: &mut [u32; 256], counter: usize, place: u32)
+    ensures { λ _. ⌜ now (places .exit) ≡ set (now (places .entry)) (counter % 256) place ⌝ }
+{
+    places[counter % 256] = place;
+}
+
+fn store_value(heights: &mut [i32; 256], counter: usize, values: &[i32], i: usize)
+    requires { ⌜ i < length (now values) ⌝ }
+    ensures { λ _. ⌜ now (heights .exit) ≡ set (now (heights .entry)) (counter % 256) (getD (now (values .entry)) i (pos 0)) ⌝ }
+{
+    heights[counter % 256] = values[i];
+}
+
+// Takes value i of the call: drops what is too old, closes the open minima above it, and pushes it.
+// The time is that of those closed, and a constant.
+pub fn push_minimum(
+    places: &mut [u32; 256],
+    heights: &mut [i32; 256],
+    first: usize,
+    next: usize,
+    taken: u32,
+    values: &[i32],
+    i: usize,
+) -> Pushed
+    requires { ⌜ AreCounters taken first next × (i < length (now values)) ⌝ }
+    requires { ⌜ goodRing taken (ringFrom first next (now places) (now heights)) ≡ true ⌝ }
+    ensures { λ r. ⌜ IsPushed taken (ringFrom first next (now (places .entry)) (now (heights .entry)))
+        (getD (now (values .entry)) i (pos 0)) (now (places .exit)) (now (heights .exit)) r ⌝ }
+{
+    let start = drop_oldest(places, first, next, taken);
+    let kept = keep(places, heights, start, next, taken, values, i);
+    let at = kept.at;
+    store_place(places, at, taken);
+    store_value(heights, at, values, i);
+    Pushed {
+        first: start,
+        next: at + 1,
+        distance: kept.distance,
+    }
 }
 
 // The slot of open minimum i, the oldest being 0.
@@ -34,160 +132,41 @@ fn slot_of(first: u8, i: u32) -> usize
 // The place of open minimum i.
 fn place_at(places: &[u32; 256], first: u8, i: u32) -> u32
     requires { ⌜ i ≤ 256 ⌝ }
-    ensures { λ r. ⌜ r ≡ placeIn first (now (places .entry)) i ⌝ }
+    ensures { λ r. ⌜ r ≡ getD (now (places .entry)) ((first + i) % 256) 0 ⌝ }
 {
     let at = slot_of(first, i);
     places[at]
 }
 
-// Is the value in a slot not above value i of the text.
-fn not_above(values: &[i32; 256], at: usize, text: &[i32], i: usize) -> bool
-    requires { ⌜ (at < 256) × (i < length (now text)) ⌝ }
-    ensures { λ r. ⌜ r ≡ leZ (getD (now (values .entry)) at (pos 0)) (getD (now (text .entry)) i (pos 0)) ⌝ }
-{
-    values[at] <= text[i]
-}
-
 // Is the value in slot a not above the one in slot b.
-fn not_lower(values: &[i32; 256], a: usize, b: usize) -> bool
+fn not_lower(heights: &[i32; 256], a: usize, b: usize) -> bool
     requires { ⌜ (a < 256) × (b < 256) ⌝ }
-    ensures { λ r. ⌜ r ≡ leZ (getD (now (values .entry)) a (pos 0)) (getD (now (values .entry)) b (pos 0)) ⌝ }
+    ensures { λ r. ⌜ r ≡ leZ (getD (now (heights .entry)) a (pos 0)) (getD (now (heights .entry)) b (pos 0)) ⌝ }
 {
-    values[a] <= values[b]
-}
-
-// 1 where the open minimum of the place is not among the last 256 values any more once the next is taken, 0 where it is.
-fn is_old(place: u32, taken: u32) -> usize
-    ensures { λ r. ⌜ r ≡ cond (leb (place + 256) taken) 1 0 ⌝ }
-{
-    if place as usize + SearchState::WINDOW <= taken as usize {
-        1
-    } else {
-        0
-    }
-}
-
-// Where the ring starts once the oldest open minimum is dropped, if it is too old. That is a sum, as a branch would be hard to predict. Where nothing is
-// open, nothing is taken, and no place is too old.
-fn drop_oldest(places: &[u32; 256], first: usize, taken: u32) -> usize
-    requires { ⌜ first < 256 ⌝ }
-    ensures { λ r. ⌜ r ≡ (first + cond (leb (getD (now (places .entry)) first 0 + 256) taken) 1 0) % 256 ⌝ }
-{
-    let old = is_old(places[first], taken);
-    (first + old) % 256
-}
-
-// The slot before a slot.
-fn slot_before(at: usize) -> usize
-    requires { ⌜ at < 256 ⌝ }
-    ensures { λ r. ⌜ r ≡ (at + 255) % 256 ⌝ }
-{
-    (at + 255) % 256
-}
-
-// Closes the open minima above value i of the text, from the newest down: they lie from the slot `start` on to before the slot `next`, 255 at most.
-fn keep(
-    places: &[u32; 256],
-    values: &[i32; 256],
-    start: usize,
-    next: usize,
-    taken: u32,
-    text: &[i32],
-    i: usize,
-) -> Kept
-    requires { ⌜ (start < 256) × (next < 256) × (i < length (now text)) ⌝ }
-    requires { ⌜ ((j : ℕ) → j < between start next → placeIn start (now places) j < taken) ⌝ }
-    ensures { λ r. ⌜ r .at ≡ (start + keptIn start (now (values .entry)) (getD (now (text .entry)) i (pos 0)) (between start next)) % 256 ⌝ }
-    ensures { λ r. ⌜ r .distance ≡ backFrom taken start (now (places .entry)) (keptIn start (now (values .entry)) (getD (now (text .entry)) i (pos 0)) (between start next)) ⌝ }
-{
-    let mut at = next;
-    while at != start {
-        let newest = slot_before(at);
-        if not_above(values, newest, text, i) {
-            return Kept {
-                at,
-                distance: taken - places[newest],
-            };
-        }
-        at = newest;
-    }
-    Kept { at, distance: 0 }
-}
-
-fn store_place(places: &mut [u32; 256], at: usize, place: u32)
-    requires { ⌜ at < 256 ⌝ }
-    ensures { λ _. ⌜ now (places .exit) ≡ set (now (places .entry)) at place ⌝ }
-{
-    places[at] = place;
-}
-
-fn store_value(values: &mut [i32; 256], at: usize, text: &[i32], i: usize)
-    requires { ⌜ (at < 256) × (i < length (now text)) ⌝ }
-    ensures { λ _. ⌜ now (values .exit) ≡ set (now (values .entry)) at (getD (now (text .entry)) i (pos 0)) ⌝ }
-{
-    values[at] = text[i];
-}
-
-// Takes value i of the text: drops what is too old, closes the open minima above it, and pushes it. The open minima lie from the slot `first` on to
-// before the slot `next`; their number is not kept. The time is that of those closed, and a constant.
-pub fn push_minimum(
-    places: &mut [u32; 256],
-    values: &mut [i32; 256],
-    first: usize,
-    next: usize,
-    taken: u32,
-    text: &[i32],
-    i: usize,
-) -> Pushed
-    requires { ⌜ IsRing taken first next × (i < length (now text)) ⌝ }
-    requires { ⌜ goodMinima (stateOf taken (minimaIn taken first next) first (now places) (now values)) ≡ true ⌝ }
-    ensures { λ r. ⌜ IsPushed (stateOf taken (minimaIn taken first next) first (now (places .entry)) (now (values .entry))) (getD (now (text .entry)) i (pos 0)) (now (places .exit)) (now (values .exit)) r ⌝ }
-{
-    let start = drop_oldest(places, first, taken);
-    let kept = keep(places, values, start, next, taken, text, i);
-    let at = kept.at;
-    store_place(places, at, taken);
-    store_value(values, at, text, i);
-    Pushed {
-        first: start,
-        next: (at + 1) % 256,
-        distance: kept.distance,
-    }
-}
-
-// How many open minima lie from the slot `first` on to before the slot `next`: none where nothing is taken, and otherwise one at least.
-pub fn count_minima(first: usize, next: usize, taken: u32) -> u32
-    requires { ⌜ (first < 256) × (next < 256) ⌝ }
-    ensures { λ r. ⌜ r ≡ minimaIn taken first next ⌝ }
-{
-    if taken == 0 {
-        0
-    } else {
-        ((next + 255 - first) % 256 + 1) as u32
-    }
+    heights[a] <= heights[b]
 }
 
 // Does the open minimum after i have a later place and no smaller value.
-fn next_follows(places: &[u32; 256], values: &[i32; 256], first: u8, i: u32) -> bool
+fn next_follows(places: &[u32; 256], heights: &[i32; 256], first: u8, minima: u32, i: u32) -> bool
     requires { ⌜ i < 256 ⌝ }
-    ensures { λ r. ⌜ r ≡ follows first (now (places .entry)) (now (values .entry)) i ⌝ }
+    ensures { λ r. ⌜ r ≡ follows (ringAt minima first (now (places .entry)) (now (heights .entry))) i ⌝ }
 {
     let a = slot_of(first, i);
     let b = slot_of(first, i + 1);
     if places[a] >= places[b] {
         return false;
     }
-    not_lower(values, a, b)
+    not_lower(heights, a, b)
 }
 
 // Do the first n open minima and the one after them have rising places and values that never fall.
-fn are_in_order(places: &[u32; 256], values: &[i32; 256], first: u8, n: u32) -> bool
+fn are_in_order(places: &[u32; 256], heights: &[i32; 256], first: u8, minima: u32, n: u32) -> bool
     requires { ⌜ n < 256 ⌝ }
-    ensures { λ r. ⌜ r ≡ inOrder first (now (places .entry)) (now (values .entry)) n ⌝ }
+    ensures { λ r. ⌜ r ≡ inOrder (ringAt minima first (now (places .entry)) (now (heights .entry))) n ⌝ }
 {
     let mut i: u32 = 0;
     while i < n {
-        if !next_follows(places, values, first, i) {
+        if !next_follows(places, heights, first, minima, i) {
             return false;
         }
         i += 1;
@@ -195,18 +174,19 @@ fn are_in_order(places: &[u32; 256], values: &[i32; 256], first: u8, n: u32) -> 
     true
 }
 
-// Are the open minima of a state as a search leaves them: rising places among the last 256 values taken, the last of them that of the last value, and values that never fall.
+// Are the open minima as a search leaves them: rising places among the last 256 values taken, the
+// last of them that of the last value, and values that never fall.
 pub fn minima_are_good(
     places: &[u32; 256],
-    values: &[i32; 256],
+    heights: &[i32; 256],
     first: u8,
     minima: u32,
     taken: u32,
 ) -> bool
-    ensures { λ r. ⌜ r ≡ goodMinima (stateOf taken minima first (now (places .entry)) (now (values .entry))) ⌝ }
+    ensures { λ r. ⌜ r ≡ goodRing taken (ringAt minima first (now (places .entry)) (now (heights .entry))) ⌝ }
 {
     if minima == 0 {
-        return taken == 0;
+        return true;
     }
     if minima > 256 {
         return false;
@@ -223,5 +203,5 @@ pub fn minima_are_good(
             return false;
         }
     }
-    are_in_order(places, values, first, last)
+    are_in_order(places, heights, first, minima, last)
 }

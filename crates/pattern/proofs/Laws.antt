@@ -1,25 +1,16 @@
--- The refusals of the entries on one pattern, in the words of the code's tests: the number of a refusal is that of the first condition met, and 0
--- where none is met; the number decides what the call tells and what it leaves in the lent array.
-use mathlib.Core.Path.{_≡_, refl, sym, _∙_, ap}
-use mathlib.Core.Bool.{Bool, true, false, not}
-use mathlib.Core.List.{List, [], _∷_, _++_}
-use Prim.Native.Nat.{ℕ, _≤_, _<_}
-use lib.Dec.{eqb, ltb}
-use lib.IntN.{ℤ}
-use lib.ListN.{length, take, drop}
-use lib.Seq.{take-at}
-use borrow.Author.Tests.{ltb-false, not-false, lt-ltb, le-ltb, eq-eqb, ne-eqb}
-use Rattle.lists.proofs.Lists.{length-tabulate}
-use Rattle.lists.proofs.Order.{T-true}
-use Rattle.realization.specs.Realization.{realizable, leastRealization, failureLengths}
-use Rattle.realization.proofs.LeastRealization.{length-least}
+-- The refusals of the entries on one pattern, in the words of the code's tests: the number of a
+-- refusal is that of the first condition met, and 0 where none is met; the number decides what the
+-- call tells and what it leaves in the lent array.
+use Rattle.lists.proofs.Prelude.{_≡_, _∙_, ap, sym, refl, Bool, true, false, not, List, [], _∷_, _++_, ℕ, _≤_, _<_, ℤ, eqb, ltb, length, take, drop, take-at}
+use Rattle.lists.proofs.Prelude.{eq-eqb, ne-eqb, not-false, lt-ltb, le-ltb, ltb-false}
+use Rattle.lists.proofs.Tables.{length-tabulate}
+use Rattle.realization.specs.Realization.{realizable, failureLengths}
 use Rattle.ranking.specs.Rank.{factorial, unrank, isRank}
 use Rattle.ranking.proofs.Rank.{length-unrank}
 use Rattle.answers.specs.declared.Refusal.{Refusal}
 use Rattle.answers.specs.Told.{number}
-use Rattle.model.specs.Refusals.{Entry, firstMet, unless, told, after}
-use Rattle.model.specs.Entries.{distancesEntry, listConditions, encodeEntry, decodeEntry}
-use Rattle.model.proofs.Refusals.{first-unmet, unless-refused}
+use Rattle.entries.specs.Entries.{Conditions, Entry, firstMet, unless, told, after, distancesEntry, listConditions, encodeEntry, decodeEntry}
+use Rattle.entries.proofs.Refusals.{first-unmet, unless-refused}
 use Rattle.pattern.specs.declared.Checked.{Checked}
 use Rattle.pattern.specs.Checked.{toldChecked}
 
@@ -39,7 +30,8 @@ refused r e array h =
 pub tells : {A : Type 0} (e : Entry ℕ A) (m : ℕ) → firstMet (e .conditions) ≡ 0 → m ≡ e .counts → _≡_ {A = ℕ × ℕ} (0, m) (told 0 e)
 tells e m h q = ap (λ (j : ℕ). (0, j)) q ∙ sym (ap (λ (k : ℕ). (k, unless k (e .counts) 0)) h)
 
-pub written : {A : Type 0} (e : Entry ℕ A) (array left : List A) → firstMet (e .conditions) ≡ 0 → length (e .result) ≡ e .counts → left ≡ e .result ++ drop (e .counts) array
+pub written : {A : Type 0} (e : Entry ℕ A) (array left : List A) → firstMet (e .conditions) ≡ 0 → length (e .result) ≡ e .counts
+    → left ≡ e .result ++ drop (e .counts) array
     → (_≡_ {A = ℕ × ℕ} (0, e .counts) (told 0 e)) × (left ≡ after e array)
 written e array left h l q = (
   tells e (e .counts) h refl,
@@ -50,8 +42,8 @@ written e array left h l q = (
 pub checked-refused : (checked : Checked) (k : ℕ) (r : Refusal) → toldChecked checked ≡ k → checked ≡ Checked.Refused r → k ≡ number r
 checked-refused checked k r h e = sym h ∙ ap toldChecked e
 
-pub checked-good : (checked : Checked) (k : ℕ) → toldChecked checked ≡ k → checked ≡ Checked.Good → k ≡ 0
-checked-good checked k h e = sym h ∙ ap toldChecked e
+pub checked-accepted : (checked : Checked) (k : ℕ) → toldChecked checked ≡ k → checked ≡ Checked.Accepted → k ≡ 0
+checked-accepted checked k h e = sym h ∙ ap toldChecked e
 
 -- ---- distances of values
 
@@ -89,9 +81,9 @@ module _ (ds : List ℕ) (room : ℕ) where
   -- what a call that is not refused knows
   pub list-unmet : firstMet (listConditions ds room) ≡ 0 → (realizable ds ≡ true) × ((length ds ≤ 256) × (length ds ≤ room))
   list-unmet e =
-      let fourth : List (ℕ × Bool) = (10, ltb room (length ds)) ∷ [] in
-      let third : List (ℕ × Bool) = (4, not (realizable ds)) ∷ fourth in
-      let second : List (ℕ × Bool) = (2, ltb 256 (length ds)) ∷ third in
+      let fourth : Conditions = (10, ltb room (length ds)) ∷ [] in
+      let third : Conditions = (4, not (realizable ds)) ∷ fourth in
+      let second : Conditions = (2, ltb 256 (length ds)) ∷ third in
       let a = first-unmet 0 (eqb (length ds) 0) second e in
       let b = first-unmet 1 (ltb 256 (length ds)) third (a .1) in
       let c = first-unmet 3 (not (realizable ds)) fourth (b .1) in
@@ -149,9 +141,6 @@ module _ (n code f : ℕ) (e : f ≡ factorial n) where
       rw (lt-ltb code (factorial n) (rw e at h), r, d, take-at (unrank n code) behind n (length-unrank n code)) refl
 
 -- ---- the lengths of the results
-
-pub length-leastRealization : (ds : List ℕ) → realizable ds ≡ true → length (leastRealization ds) ≡ length ds
-length-leastRealization ds e = length-least ds (T-true (realizable ds) e)
 
 pub length-failureLengths : (ds : List ℕ) → length (failureLengths ds) ≡ length ds
 unfolding failureLengths

@@ -4,5 +4,5 @@ use Rattle.answers.specs.Told.{number}
 use Rattle.pattern.specs.declared.Checked.{Checked}
 
 abbrev pub toldChecked : Checked → ℕ
-toldChecked Checked.Good = 0
+toldChecked Checked.Accepted = 0
 toldChecked (Checked.Refused r) = number r

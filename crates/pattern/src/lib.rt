@@ -1,10 +1,9 @@
-// The entries on one pattern: each tells what it refuses by number, and else writes its result to the front of the lent array.
-ghost use mathlib.Core.Path.{_≡_};
-ghost use Prim.Native.Nat.{_≤_};
+// The entries on one pattern: each tells what it refuses by number, and else writes its result to
+// the front of the lent array.
+ghost use Rattle.lists.specs.Prelude.{_≡_, _≤_};
 ghost use Rattle.answers.specs.Told.{toldWritten, toldEncoded};
 ghost use Rattle.global_parents.specs.GlobalParents.{globalParents};
-ghost use Rattle.model.specs.Refusals.{firstMet, told, after};
-ghost use Rattle.model.specs.Entries.{distancesEntry, listConditions, listEntry, encodeEntry, decodeEntry};
+ghost use Rattle.entries.specs.Entries.{firstMet, told, after, distancesEntry, listConditions, listEntry, encodeEntry, decodeEntry};
 ghost use Rattle.ranking.specs.Rank.{isRank};
 ghost use Rattle.realization.specs.Realization.{leastRealization, failureLengths};
 ghost use Rattle.pattern.specs.Checked.{toldChecked};
@@ -14,7 +13,7 @@ use answers::Written;
 
 // Whether a call goes on.
 pub enum Checked {
-    Good,
+    Accepted,
     Refused(Refusal),
 }
 
@@ -36,7 +35,8 @@ pub fn distances(values: &[i32], out: &mut [u32]) -> Written
     Written::Words(values.len())
 }
 
-// The first condition met of those that concern a list of distances whose result goes into an array of the given room.
+// The first condition met of those that concern a list of distances whose result goes into an array
+// of the given room.
 pub fn check_list(ds: &[u32], room: usize) -> Checked
     ensures { λ r. ⌜ toldChecked r ≡ firstMet (listConditions (now (ds .entry)) room) ⌝ }
 {
@@ -52,7 +52,7 @@ pub fn check_list(ds: &[u32], room: usize) -> Checked
     if room < ds.len() {
         return Checked::Refused(Refusal::ArrayTooShort);
     }
-    Checked::Good
+    Checked::Accepted
 }
 
 // Writes the least values that have the distances.
@@ -64,7 +64,7 @@ pub fn least_realization(ds: &[u32], out: &mut [i32]) -> Written
     let checked = check_list(ds, out.len());
     match checked {
         Checked::Refused(r) => Written::Refused(r),
-        Checked::Good => {
+        Checked::Accepted => {
             compute_realization::least_realization(ds, out);
             Written::Words(values)
         }
@@ -80,7 +80,7 @@ pub fn global_parents(ds: &[u32], out: &mut [u32]) -> Written
     let checked = check_list(ds, out.len());
     match checked {
         Checked::Refused(r) => Written::Refused(r),
-        Checked::Good => {
+        Checked::Accepted => {
             compute_parents::global_parents(ds, out);
             Written::Words(parents)
         }
@@ -96,7 +96,7 @@ pub fn failure_lengths(ds: &[u32], out: &mut [u32]) -> Written
     let checked = check_list(ds, out.len());
     match checked {
         Checked::Refused(r) => Written::Refused(r),
-        Checked::Good => {
+        Checked::Accepted => {
             compute_failures::failure_lengths(ds, out);
             Written::Words(lengths)
         }

@@ -1,11 +1,8 @@
--- What a good set is: at most 64 patterns with at most 4,096 distances in all, each a realizable list of 1 to 256.
-use mathlib.Core.Bool.{_&&_}
-use mathlib.Core.List.{List, List·Memᴰ, flatten}
-use Prim.Native.Nat.{ℕ, _≤_}
-use lib.Dec.{T, leb, leb→le}
-use lib.ListN.{length}
-use Rattle.lists.specs.Prelude.{all}
-use Rattle.lists.proofs.Lists.{and-split, all-mem, mem-all}
+-- What a good set is: at most 64 patterns with at most 4,096 distances in all, each a realizable
+-- list of 1 to 256.
+use Rattle.lists.proofs.Prelude.{_&&_, List, List·Memᴰ, flatten, ℕ, _≤_, T, leb, leb→le, length, all}
+use Rattle.lists.proofs.Tests.{and-split}
+use Rattle.lists.proofs.Members.{all-mem, mem-all}
 use Rattle.realization.specs.Realization.{realizable}
 use Rattle.pattern_set.specs.PatternSet.{PatternSet, goodPattern, goodSet}
 

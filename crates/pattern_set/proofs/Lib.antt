@@ -1,4 +1,4 @@
 -- The root of the crate's laws.
 pub mod Words
-pub mod ReadSet
+pub mod IsSet
 pub mod Good

@@ -1,12 +1,8 @@
--- Reading the words of a set gives the set, whatever lies behind them: offset j is the length of the first j patterns, so the words from offset j up to the next one are pattern j.
-use mathlib.Core.Path.{_≡_, refl, sym, _∙_, ap, ap₂}
-use mathlib.Core.List.{List, [], _∷_, _++_, flatten, append-assoc, append-nil}
-use Prim.Native.Nat.{ℕ, zero, suc, _+_, _-_, _≤_, _<_}
-use native.Mathlib.Omega.{arith}
-use native.Mathlib.Nat.{add-zero}
-use lib.ListN.{length, getD, take, drop, length-append}
-use lib.Seq.{take-append-seam, drop-append-add}
-use Rattle.lists.proofs.Lists.{tabulate-ext, tabulate-getD}
+-- Reading the words of a set gives the set, whatever lies behind them: offset j is the length of
+-- the first j patterns, so the words from offset j up to the next one are pattern j.
+use Rattle.lists.proofs.Prelude.{_≡_, _∙_, ap, sym, refl, ap₂, List, [], _∷_, _++_, append-nil, append-assoc, flatten, ℕ, zero, suc, _+_, _-_, _≤_, _<_, length}
+use Rattle.lists.proofs.Prelude.{getD, take, drop, length-append, take-append-seam, drop-append-add, add-zero, arith}
+use Rattle.lists.proofs.Tables.{tabulate-ext, tabulate-getD}
 use Rattle.pattern_set.specs.PatternSet.{PatternSet, offsets, setWords, patternIn, patternsIn}
 
 pub length-offsets : (o : ℕ) (ps : PatternSet) → length (offsets o ps) ≡ suc (length ps)
@@ -40,7 +36,9 @@ words-offset ps rest j h =
     rw (two, append-assoc (offsets 0 ps) (flatten ps) rest) (getD-offsets 0 ps (flatten ps ++ rest) j h ∙ (omega arith))
 
 -- pattern j is what lies from offset j up to the next one
-part-is : (ps : PatternSet) (rest : List ℕ) (j : ℕ) → j < length ps → take (length (flatten (take (suc j) ps)) - length (flatten (take j ps))) (drop (length (flatten (take j ps))) (flatten ps ++ rest)) ≡ getD ps j []
+part-is : (ps : PatternSet) (rest : List ℕ) (j : ℕ) → j < length ps
+    → take (length (flatten (take (suc j) ps)) - length (flatten (take j ps))) (drop (length (flatten (take j ps))) (flatten ps ++ rest))
+    ≡ getD ps j []
 unfolding flatten
 part-is [] rest j h = absurd (let z : ⊥ = omega arith in z)
 part-is (p ∷ ps) rest zero h =
@@ -50,7 +48,8 @@ part-is (p ∷ ps) rest (suc j) h =
     let a = length (flatten (take (suc j) ps)) in
     let b = length (flatten (take j ps)) in
     let e : length (p ++ flatten (take (suc j) ps)) - length (p ++ flatten (take j ps)) ≡ a - b = simp length-append (omega arith) in
-    rw (e, append-assoc p (flatten ps) rest, length-append p (flatten (take j ps)), drop-append-add p (flatten ps ++ rest) b) (part-is ps rest j (omega arith))
+    rw (e, append-assoc p (flatten ps) rest, length-append p (flatten (take j ps)), drop-append-add p (flatten ps ++ rest) b)
+    (part-is ps rest j (omega arith))
 
 pub patternIn-words : (ps : PatternSet) (rest : List ℕ) (j : ℕ) → j < length ps → patternIn (setWords ps ++ rest) j ≡ getD ps j []
 unfolding setWords patternIn
@@ -60,10 +59,13 @@ patternIn-words ps rest j h =
     let two : 2 + j ≡ suc (suc j) = omega arith in
     let three : 3 + j ≡ suc (suc (suc j)) = omega arith in
     let seam : setWords ps ++ rest ≡ front ++ (flatten ps ++ rest) = append-assoc front (flatten ps) rest in
-    let start : getD (setWords ps ++ rest) (2 + j) 0 ≡ b = rw (two, append-assoc (offsets 0 ps) (flatten ps) rest) (getD-offsets 0 ps (flatten ps ++ rest) j (omega arith) ∙ (omega arith)) in
-    let end : getD (setWords ps ++ rest) (3 + j) 0 ≡ length (flatten (take (suc j) ps)) = rw (three, append-assoc (offsets 0 ps) (flatten ps) rest) (getD-offsets 0 ps (flatten ps ++ rest) (suc j) (omega arith) ∙ (omega arith)) in
+    let start : getD (setWords ps ++ rest) (2 + j) 0 ≡ b =
+    rw (two, append-assoc (offsets 0 ps) (flatten ps) rest) (getD-offsets 0 ps (flatten ps ++ rest) j (omega arith) ∙ (omega arith)) in
+    let end : getD (setWords ps ++ rest) (3 + j) 0 ≡ length (flatten (take (suc j) ps)) =
+    rw (three, append-assoc (offsets 0 ps) (flatten ps) rest) (getD-offsets 0 ps (flatten ps ++ rest) (suc j) (omega arith) ∙ (omega arith)) in
     let place : 3 + length ps + b ≡ length front + b = rw length-offsets (omega arith) in
-    let behind : drop (3 + length ps + b) (setWords ps ++ rest) ≡ drop b (flatten ps ++ rest) = rw (place, seam) (drop-append-add front (flatten ps ++ rest) b) in
+    let behind : drop (3 + length ps + b) (setWords ps ++ rest) ≡ drop b (flatten ps ++ rest) =
+    rw (place, seam) (drop-append-add front (flatten ps ++ rest) b) in
     ap₂ (λ (e s : ℕ). take (e - s) (drop (3 + length ps + s) (setWords ps ++ rest))) end start
     ∙ rw behind (part-is ps rest j h)
 
@@ -71,8 +73,3 @@ pub patternsIn-words : (ps : PatternSet) (rest : List ℕ) → patternsIn (setWo
 unfolding setWords
 patternsIn-words ps rest =
     tabulate-ext (length ps) (patternIn (setWords ps ++ rest)) (λ j. getD ps j []) (patternIn-words ps rest) ∙ tabulate-getD [] ps
-
--- other sets have other words
-pub setWords-injective : (ps qs : PatternSet) → setWords ps ≡ setWords qs → ps ≡ qs
-setWords-injective ps qs e =
-    sym (patternsIn-words ps []) ∙ ap (λ (ws : List ℕ). patternsIn (ws ++ [])) e ∙ patternsIn-words qs []

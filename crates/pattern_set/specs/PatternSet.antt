@@ -1,5 +1,5 @@
 -- Sets of patterns and the words they lie in. Document 01: Set.
-use Rattle.lists.specs.Prelude.{Bool, cond, _&&_, List, [], _∷_, _++_, flatten, Option, none, some, ℕ, _+_, _-_, leb, length, getD, take, drop, tabulate, all, begins}
+use Rattle.lists.specs.Prelude.{_≡_, Bool, true, cond, _&&_, List, [], _∷_, _++_, flatten, ℕ, _+_, _-_, leb, length, getD, take, drop, tabulate, all, begins}
 use Rattle.realization.specs.Realization.{realizable}
 
 -- the patterns' distance lists; a pattern's number is its place
@@ -23,13 +23,20 @@ goodSet ps = leb (length ps) 64 && leb (length (flatten ps)) 4096 && all goodPat
 
 -- pattern j as the array's first words tell of it, whatever they are
 unfoldable pub patternIn : List ℕ → ℕ → List ℕ
-patternIn ws j =
-    let start = getD ws (2 + j) 0 in
-    take (getD ws (3 + j) 0 - start) (drop (3 + getD ws 0 0 + start) ws)
+patternIn ws j = take (getD ws (3 + j) 0 - getD ws (2 + j) 0) (drop (3 + getD ws 0 0 + getD ws (2 + j) 0) ws)
 
 abbrev pub patternsIn : List ℕ → PatternSet
 patternsIn ws = tabulate (getD ws 0 0) (patternIn ws)
 
--- the set with whose words an array begins, if there is a good one (law `readSet-iff`)
-unfoldable pub readSet : List ℕ → Option PatternSet
-readSet ws = cond (goodSet (patternsIn ws) && begins ws (setWords (patternsIn ws))) (some (patternsIn ws)) none
+-- does the array begin with the words of a good set: of the patterns that its first words tell of
+-- (law `isSet-iff`)
+unfoldable pub isSet : List ℕ → Bool
+isSet ws = goodSet (patternsIn ws) && begins ws (setWords (patternsIn ws))
+
+-- the array is a set array
+abbrev pub IsSet : List ℕ → Type 0
+IsSet ws = isSet ws ≡ true
+
+-- the patterns of a set array; of any other array none
+unfoldable pub patternsOf : List ℕ → PatternSet
+patternsOf ws = cond (isSet ws) (patternsIn ws) []

@@ -1,8 +1,7 @@
--- Division and remainder as the factorial number system uses them: the digit above a low part, and the remainder by a product.
-use mathlib.Core.Path.{_≡_, sym, _∙_, ap}
-use Prim.Native.Nat.{ℕ, zero, suc, _+_, _*_, _/_, _%_, _≤_, _<_}
-use native.Mathlib.Nat.{zero-add, mul-pos, mul-le-mul-right, add-mul-div-right, div-eq-of-lt, add-mul-mod-self-right, mod-eq-of-lt, mod-lt, div-add-mod', mul-add-mod-self-right}
-use native.Mathlib.Omega.{arith}
+-- Division and remainder as the factorial number system uses them: the digit above a low part, and
+-- the remainder by a product.
+use Rattle.lists.proofs.Prelude.{_≡_, _∙_, ap, sym, ℕ, zero, suc, _+_, _*_, _/_, _%_, _≤_, _<_, zero-add, mod-lt, mod-eq-of-lt, mul-add-mod-self-right}
+use Rattle.lists.proofs.Prelude.{mul-le-mul-right, div-add-mod', mul-pos, add-mul-div-right, div-eq-of-lt, add-mul-mod-self-right, arith}
 use Rattle.ranking.specs.Rank.{factorial}
 
 pub factorial-pos : (n : ℕ) → 0 < factorial n
@@ -25,7 +24,8 @@ digit-read f i a d q h k =
 pub mod-product : (c f i : ℕ) → 0 < f → c % (suc i * f) ≡ c % f + c / f % suc i * f
 mod-product c f i h =
     let q = c / f in
-    let e : c ≡ q / suc i * (suc i * f) + (c % f + q % suc i * f) = sym (split (q / suc i) (q % suc i) q (c % f) (div-add-mod' q (suc i)) ∙ div-add-mod' c f) in
+    let e : c ≡ q / suc i * (suc i * f) + (c % f + q % suc i * f) =
+    sym (split (q / suc i) (q % suc i) q (c % f) (div-add-mod' q (suc i)) ∙ div-add-mod' c f) in
     let l : c % f + q % suc i * f < suc i * f = digit-lt f i (c % f) (q % suc i) (mod-lt c h) (omega (arith, mod-lt q {m = suc i} (omega arith))) in
     ap (λ (n : ℕ). n % (suc i * f)) e ∙ mul-add-mod-self-right (q / suc i) (suc i * f) (c % f + q % suc i * f) ∙ mod-eq-of-lt l
   where

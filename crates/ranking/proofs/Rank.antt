@@ -1,14 +1,9 @@
--- The rank is the factorial number system: the distance at place i, which is at most i, is the digit of weight i!. So ranking and unranking undo one another, for the lists whose distances are at most their places and the codes below the factorial of the length.
-use mathlib.Core.Path.{_≡_, refl, sym, _∙_, subst}
-use mathlib.Core.Logic.{_↔_}
-use mathlib.Core.List.{List, [], _∷_, _++_}
-use Prim.Native.Nat.{ℕ, zero, suc, _+_, _*_, _/_, _%_, _<_}
-use native.Mathlib.Nat.{add-zero, zero-add, mod-lt, mod-one, mod-eq-of-lt}
-use native.Mathlib.Omega.{arith}
-use lib.ListN.{length, getD}
-use lib.Seq.{ext-getD}
-use Rattle.lists.specs.Prelude.{tabulate}
-use Rattle.lists.proofs.Lists.{length-tabulate, getD-tabulate}
+-- The rank is the factorial number system: the distance at place i, which is at most i, is the
+-- digit of weight i!. So ranking and unranking undo one another, for the lists whose distances are
+-- at most their places and the codes below the factorial of the length.
+use Rattle.lists.proofs.Prelude.{_≡_, _∙_, sym, refl, subst, _↔_, List, [], _∷_, _++_, ℕ, zero, suc, _+_, _*_, _/_, _%_, _<_, length, getD, ext-getD, add-zero}
+use Rattle.lists.proofs.Prelude.{zero-add, mod-lt, mod-eq-of-lt, mod-one, arith, tabulate}
+use Rattle.lists.proofs.Tables.{length-tabulate, getD-tabulate}
 use Rattle.cartesian.specs.Cartesian.{tree}
 use Rattle.cartesian.proofs.HasTree.{tree-has}
 use Rattle.cartesian.proofs.Structure.{distances-tree}

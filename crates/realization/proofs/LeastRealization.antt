@@ -1,19 +1,15 @@
--- The least realization has the list, is not negative, and is at every place no larger than any other such values: by induction on the tree,
--- what is left of a root is above it, so at least one higher than any bound of the root.
-use mathlib.Core.Path.{_≡_, refl, sym, _∙_, ap, ap₂, subst}
-use mathlib.Core.List.{List, [], _∷_, _++_, map}
-use Prim.Native.Nat.{ℕ, zero, suc, _+_, _≤_, _<_}
-use native.Mathlib.Omega.{arith}
-use native.Mathlib.Nat.{le-refl, le-trans}
-use lib.Dec.{T, le→leb, leb→le}
-use lib.IntN.{ℤ, pos, negsuc}
-use lib.Signed.{leZ, ltZ, _≤ℤ_, _<ℤ_, leZ-yes, ltZ-yes, ≤ℤ-refl}
-use lib.ListN.{length, getD, List·getD-map}
-use Rattle.lists.proofs.Order.{≤ℤ-trans}
-use Rattle.cartesian.specs.Cartesian.{Tree, leaf, node, size, tree, distances, treeOf}
+-- The least realization has the list, is not negative, and is at every place no larger than any
+-- other such values: by induction on the tree, what is left of a root is above it, so at least one
+-- higher than any bound of the root.
+use Rattle.lists.proofs.Order.{pos-above, ≤ℤ-trans}
+use Rattle.lists.proofs.Prelude.{true, _≡_, _∙_, ap, sym, subst, List, [], _∷_, _++_, map, ℕ, zero, suc, _≤_, ℤ, pos, _≤ℤ_, _<ℤ_, leZ-yes, ≤ℤ-refl, T, le→leb}
+use Rattle.lists.proofs.Prelude.{length, getD, List·getD-map}
+use Rattle.lists.proofs.Tests.{T-true}
+use Rattle.cartesian.proofs.Sizes.{size-treeOf}
+use Rattle.cartesian.specs.Cartesian.{Tree, tree, distances, treeOf}
 use Rattle.cartesian.proofs.Seek.{length-distances}
 use Rattle.cartesian.proofs.HasTree.{Over, over-nil, over-cons, HasTree, empty, root, tree-has, over-at}
-use Rattle.cartesian.proofs.Structure.{treeDistances, distances-tree, length-treeDistances}
+use Rattle.cartesian.proofs.Structure.{treeDistances}
 use Rattle.cartesian.proofs.TreeOf.{treeOf-treeDistances, treeOf-distances}
 use Rattle.realization.specs.Realization.{Realizable, realizable, leftTurns, leastRealization, NotNegative, IsLeast}
 use Rattle.realization.proofs.LeftTurns.{risen, risen-over, turns-risen, turns-distances, turns-bound}
@@ -36,6 +32,9 @@ least-tree ds h = sym (treeOf-distances (leastRealization ds)) ∙ ap treeOf (le
 pub length-least : (ds : List ℕ) → T (realizable ds) → length (leastRealization ds) ≡ length ds
 length-least ds h = sym (length-distances (leastRealization ds)) ∙ ap length (least-distances ds h)
 
+pub length-leastRealization : (ds : List ℕ) → realizable ds ≡ true → length (leastRealization ds) ≡ length ds
+length-leastRealization ds e = length-least ds (T-true (realizable ds) e)
+
 -- ---- at every place no larger
 
 -- place by place no larger, over lists of one length
@@ -52,15 +51,9 @@ under-at under-nil i = ≤ℤ-refl (pos 0)
 under-at (under-cons h hs) zero = h
 under-at (under-cons h hs) (suc i) = under-at hs i
 
--- above a value that is at least c: at least c + 1
-one-more : (c : ℕ) (x y : ℤ) → pos c ≤ℤ x → x <ℤ y → pos (suc c) ≤ℤ y
-one-more c (pos a) (pos b) h k = leZ-yes (le→leb (suc c) b (omega (arith, leb→le c a (h .le), leb→le (suc a) b (k .lt))))
-one-more c (pos a) (negsuc b) h k = absurd (k .lt)
-one-more c (negsuc a) y h k = absurd (h .le)
-
 all-more : (c : ℕ) (x : ℤ) (ys : List ℤ) → pos c ≤ℤ x → Over (λ y. x <ℤ y) ys → Over (λ y. pos (suc c) ≤ℤ y) ys
 all-more c x [] h over-nil = over-nil
-all-more c x (y ∷ ys) h (over-cons k ks) = over-cons (one-more c x y h k) (all-more c x ys h ks)
+all-more c x (y ∷ ys) h (over-cons k ks) = over-cons (pos-above c x y h k) (all-more c x ys h ks)
 
 all-from : (c : ℕ) (x : ℤ) (ys : List ℤ) → pos c ≤ℤ x → Over (λ y. x ≤ℤ y) ys → Over (λ y. pos c ≤ℤ y) ys
 all-from c x [] h over-nil = over-nil
@@ -70,7 +63,8 @@ over-middle : {P : ℤ → Type 0} (l : List ℤ) (x : ℤ) (r : List ℤ) → O
 over-middle [] x r (over-cons h hs) = h
 over-middle (y ∷ l) x r (over-cons h hs) = over-middle l x r hs
 
--- values that have the tree and are all at least c are at least the left-turn counts, each higher by c
+-- values that have the tree and are all at least c are at least the left-turn counts, each higher
+-- by c
 under-risen : {ys : List ℤ} {t : Tree} (c : ℕ) → HasTree ys t → Over (λ y. pos c ≤ℤ y) ys → Under (risen c t) ys
 unfolding risen
 under-risen c empty o = under-nil
@@ -110,6 +104,5 @@ leastRealization-least ds p =
 pub least-bound : (ds : List ℕ) (n : ℕ) → T (realizable ds) → length ds ≤ suc n → (i : ℕ) → getD (leastRealization ds) i (pos 0) ≤ℤ pos n
 unfolding leastRealization
 least-bound ds n h k i =
-    let e : size (treeOf ds) ≡ length ds = sym (length-treeDistances (treeOf ds)) ∙ ap length (treeDistances-treeOf ds h) in
-    let b = turns-bound (treeOf ds) n (rw e k) i in
+    let b = turns-bound (treeOf ds) n (rw (size-treeOf ds) k) i in
     rw (List·getD-map pos (leftTurns (treeOf ds)) i 0) (leZ-yes (le→leb (getD (leftTurns (treeOf ds)) i 0) n b))

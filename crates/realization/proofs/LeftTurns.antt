@@ -1,14 +1,9 @@
--- The left-turn counts of a tree are values that have this tree: what is left of a root is above it, what is right of it is not below it.
-use mathlib.Core.Path.{_≡_, refl, sym, _∙_, ap, ap₂, subst}
-use mathlib.Core.List.{List, [], _∷_, _++_, map}
-use Prim.Native.Nat.{ℕ, zero, suc, _+_, _≤_, _<_}
-use native.Mathlib.Omega.{arith}
-use native.Mathlib.Nat.{add-zero, add-suc, le-refl}
-use lib.Dec.{T, le→leb, leb→le}
-use lib.IntN.{ℤ, pos, negsuc}
-use lib.Signed.{leZ, _≤ℤ_, _<ℤ_, leZ-yes, ltZ-yes}
-use lib.ListN.{length, getD, length-append}
-use Rattle.lists.proofs.Members.{map-append}
+-- The left-turn counts of a tree are values that have this tree: what is left of a root is above
+-- it, what is right of it is not below it.
+use Rattle.lists.proofs.Order.{pos-le, pos-step-down, pos-below}
+use Rattle.lists.proofs.Prelude.{length-append, length-map, length, refl, _≡_, _∙_, ap, sym, subst, ap₂, List, [], _∷_, _++_, map, ℕ, zero, suc, _+_, _≤_, ℤ}
+use Rattle.lists.proofs.Prelude.{pos, _≤ℤ_, getD, le-refl, add-zero, arith}
+use Rattle.lists.proofs.Parts.{map-append}
 use Rattle.cartesian.specs.Cartesian.{Tree, leaf, node, size, distances}
 use Rattle.cartesian.proofs.HasTree.{Over, over-nil, over-cons, HasTree, empty, root}
 use Rattle.cartesian.proofs.Structure.{treeDistances, distances-tree}
@@ -28,26 +23,12 @@ over-weaken : {P Q : ℤ → Type 0} (xs : List ℤ) → ((x : ℤ) → P x → 
 over-weaken [] f over-nil = over-nil
 over-weaken (x ∷ xs) f (over-cons h hs) = over-cons (f x h) (over-weaken xs f hs)
 
-pos-le : {a b : ℕ} → a ≤ b → pos a ≤ℤ pos b
-pos-le {a} {b} h = leZ-yes (le→leb a b h)
-
-pos-lt : {a b : ℕ} → a < b → pos a <ℤ pos b
-pos-lt {a} {b} h = ltZ-yes (le→leb (suc a) b h)
-
-step-down : (c : ℕ) (x : ℤ) → pos (suc c) ≤ℤ x → pos c ≤ℤ x
-step-down c (pos a) h = pos-le (omega (arith, leb→le (suc c) a (h .le)))
-step-down c (negsuc a) h = absurd (h .le)
-
-above : (c : ℕ) (x : ℤ) → pos (suc c) ≤ℤ x → pos c <ℤ x
-above c (pos a) h = pos-lt (leb→le (suc c) a (h .le))
-above c (negsuc a) h = absurd (h .le)
-
 pub risen-over : (c : ℕ) (t : Tree) → Over (λ x. pos c ≤ℤ x) (risen c t)
 unfolding risen
 risen-over c leaf = over-nil
 risen-over c (node l r) =
     over-append (risen (suc c) l) (pos c ∷ risen c r)
-    (over-weaken (risen (suc c) l) (step-down c) (risen-over (suc c) l))
+    (over-weaken (risen (suc c) l) (pos-step-down c) (risen-over (suc c) l))
     (over-cons (pos-le (le-refl c)) (risen-over c r))
 
 pub risen-has : (c : ℕ) (t : Tree) → HasTree (risen c t) t
@@ -55,7 +36,7 @@ unfolding risen
 risen-has c leaf = empty
 risen-has c (node l r) =
     root (risen (suc c) l) (risen c r) (pos c)
-    (over-weaken (risen (suc c) l) (above c) (risen-over (suc c) l))
+    (over-weaken (risen (suc c) l) (pos-below c) (risen-over (suc c) l))
     (risen-over c r)
     (risen-has (suc c) l)
     (risen-has c r)
@@ -90,7 +71,8 @@ turns-have t = subst (λ (l : List ℤ). HasTree l t) (sym (turns-risen t)) (ris
 pub turns-distances : (t : Tree) → distances (map pos (leftTurns t)) ≡ treeDistances t
 turns-distances t = distances-tree (turns-have t)
 
--- ---- a left-turn count is less than the number of places, so it is a 32-bit number where there are at most 256
+-- ---- a left-turn count is less than the number of places, so it is a 32-bit number where there
+-- are at most 256
 
 append-bound : (k : ℕ) (xs ys : List ℕ) → ((i : ℕ) → getD xs i 0 ≤ k) → ((i : ℕ) → getD ys i 0 ≤ k) → (i : ℕ) → getD (xs ++ ys) i 0 ≤ k
 append-bound k [] ys f g i = g i
@@ -115,3 +97,8 @@ turns-bound (node (node l m) r) (suc k) h i =
     append-bound (suc k) (map suc (leftTurns (node l m))) (0 ∷ leftTurns r)
     (suc-bound k (leftTurns (node l m)) (turns-bound (node l m) k (omega arith)))
     (zero-bound (suc k) (leftTurns r) (turns-bound r (suc k) (omega arith))) i
+
+pub length-turns : (t : Tree) → length (leftTurns t) ≡ size t
+unfolding leftTurns size
+length-turns leaf = refl
+length-turns (node l r) = rw (length-append, length-map, length-turns l, length-turns r) refl

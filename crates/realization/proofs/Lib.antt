@@ -2,3 +2,4 @@
 pub mod LeftTurns
 pub mod Realizable
 pub mod LeastRealization
+pub mod Suffixes

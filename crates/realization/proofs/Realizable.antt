@@ -1,20 +1,14 @@
--- `realizable` decides exactly whether some values have a list of distances. A walk that accepts grows a tree, whose open places are those of
--- its right path; the distances of a tree are accepted, since putting a root before a list adds one open place below all others.
-use mathlib.Core.Path.{_≡_, refl, sym, _∙_, ap, ap₂, subst}
-use mathlib.Core.Bool.{Bool, true, false, cond, _&&_, _||_}
-use mathlib.Core.Logic.{_⊎_, inl, inr, ⊎-elim, _↔_}
-use mathlib.Core.List.{List, [], _∷_, _++_, map, append-nil, append-assoc}
-use Prim.Native.Nat.{ℕ, zero, suc, _+_, _≤_, _<_}
-use native.Mathlib.Omega.{arith}
-use native.Mathlib.Nat.{add-zero, add-suc, zero-add}
-use borrow.Author.Tests.{le-leb, lt-leb, eqb-true, eqb-false, eq-eqb}
-use lib.Dec.{T, eqb, leb, eqb→eq, eqb-refl}
-use lib.IntN.{ℤ, pos}
-use lib.ListN.{length, length-append}
+-- `realizable` decides exactly whether some values have a list of distances. A walk that accepts
+-- grows a tree, whose open places are those of its right path; the distances of a tree are
+-- accepted, since putting a root before a list adds one open place below all others.
+use Rattle.lists.proofs.Members.{any-append}
+use Rattle.lists.proofs.Parts.{map-append}
+use Rattle.lists.proofs.Prelude.{_≡_, _∙_, ap, sym, refl, subst, inl, inr, _⊎_, ⊎-elim, _↔_, Bool, true, false, cond, _||_, List, [], _∷_, _++_, map}
+use Rattle.lists.proofs.Prelude.{append-nil, append-assoc, ℕ, zero, suc, _+_, _≤_, pos, T, eqb, leb, eqb→eq, eqb-refl, length, add-zero, arith, le-leb, lt-leb}
+use Rattle.lists.proofs.Prelude.{eqb-true, eqb-false, any, select}
 use Rattle.lists.proofs.Select.{select-append}
-use Rattle.lists.specs.Prelude.{any, select}
-use Rattle.lists.proofs.Lists.{and-split, and-join, or-cases, or-left, or-right}
-use Rattle.cartesian.specs.Cartesian.{Tree, leaf, node, size, tree, distances}
+use Rattle.lists.proofs.Tests.{and-split, and-join, or-cases, or-left, or-right}
+use Rattle.cartesian.specs.Cartesian.{Tree, leaf, node, size, tree}
 use Rattle.cartesian.proofs.HasTree.{tree-has}
 use Rattle.cartesian.proofs.Structure.{orElse, lift, treeDistances, distances-tree, length-treeDistances}
 use Rattle.realization.specs.Realization.{Realizable, leads, opened, walk, realizable, leftTurns}
@@ -55,24 +49,17 @@ within-keep k d (o ∷ os) w = go (leb d o) (within-keep k d os (w .1))
     go false ih = ih
 
 any-append-left : (d : ℕ) (us bs : List ℕ) → T (any (eqb d) us) → T (any (eqb d) (us ++ bs))
-unfolding any
-any-append-left d [] bs t = absurd t
-any-append-left d (a ∷ us) bs t =
-    ⊎-elim (or-left (eqb d a) (any (eqb d) (us ++ bs))) (λ h. or-right (eqb d a) (any (eqb d) (us ++ bs)) (any-append-left d us bs h)) (or-cases (eqb d a) (any (eqb d) us) t)
+any-append-left d us bs t = rw (any-append (eqb d) us bs) (or-left (any (eqb d) us) (any (eqb d) bs) t)
 
 any-append-last : (d : ℕ) (us : List ℕ) → T (any (eqb d) (us ++ (d ∷ [])))
 unfolding any
-any-append-last d [] = or-left (eqb d d) false (eqb-refl d)
-any-append-last d (a ∷ us) = or-right (eqb d a) (any (eqb d) (us ++ (d ∷ []))) (any-append-last d us)
+any-append-last d us = rw (any-append (eqb d) us (d ∷ [])) (or-right (any (eqb d) us) (eqb d d || false) (or-left (eqb d d) false (eqb-refl d)))
 
 any-append-cases : (d e : ℕ) (us : List ℕ) → T (any (eqb d) (us ++ (e ∷ []))) → T (any (eqb d) us) ⊎ (d ≡ e)
 unfolding any
-any-append-cases d e [] t = ⊎-elim (λ h. inr (eqb→eq d e h)) (λ h. absurd h) (or-cases (eqb d e) false t)
-any-append-cases d e (a ∷ us) t = go (or-cases (eqb d a) (any (eqb d) (us ++ (e ∷ []))) t) (any-append-cases d e us)
-  where
-    go : T (eqb d a) ⊎ T (any (eqb d) (us ++ (e ∷ []))) → (T (any (eqb d) (us ++ (e ∷ []))) → T (any (eqb d) us) ⊎ (d ≡ e)) → T (eqb d a || any (eqb d) us) ⊎ (d ≡ e)
-    go (inl h) ih = inl (or-left (eqb d a) (any (eqb d) us) h)
-    go (inr h) ih = ⊎-elim (λ k. inl (or-right (eqb d a) (any (eqb d) us) k)) (λ k. inr k) (ih h)
+any-append-cases d e us t =
+    ⊎-elim inl (λ h. ⊎-elim (λ k. inr (eqb→eq d e k)) (λ k. absurd k) (or-cases (eqb d e) false h))
+    (or-cases (any (eqb d) us) (eqb d e || false) (rw (any-append (eqb d) us (e ∷ [])) at t))
 
 -- nothing stays open under a distance that is farther than all
 keep-far : (k : ℕ) (os : List ℕ) → Within k os → keep (suc k) os ≡ []
@@ -85,10 +72,6 @@ unfolding select
 keep-last d e os l =
     select-append (leb d) os (e ∷ [])
     ∙ ap (λ (l : List ℕ). keep d os ++ l) (rw (le-leb d e l) refl)
-
-map-last : (us : List ℕ) (a : ℕ) → map suc (us ++ (a ∷ [])) ≡ map suc us ++ (suc a ∷ [])
-map-last [] a = refl
-map-last (x ∷ us) a = ap (λ (l : List ℕ). suc x ∷ l) (map-last us a)
 
 -- ---- growing a tree at its right end
 
@@ -123,11 +106,13 @@ size-insert d leaf = refl
 size-insert zero (node l r) = omega arith
 size-insert (suc d) (node l r) = go (eqb d (size r)) (size-insert (suc d) r)
   where
-    go : (b : Bool) → size (insertLast (suc d) r) ≡ suc (size r) → size (cond b (node l (node r leaf)) (node l (insertLast (suc d) r))) ≡ suc (size l + suc (size r))
+    go : (b : Bool) → size (insertLast (suc d) r) ≡ suc (size r)
+        → size (cond b (node l (node r leaf)) (node l (insertLast (suc d) r))) ≡ suc (size l + suc (size r))
     go true e = omega arith
     go false e = omega arith
 
--- a distance that leads to a place of the right path of (node l r), but not to the root, leads to one of r's
+-- a distance that leads to a place of the right path of (node l r), but not to the root, leads to
+-- one of r's
 inner : (d : ℕ) (l r : Tree) → T (any (eqb (suc d)) (rightPath (node l r))) → eqb d (size r) ≡ false → T (any (eqb (suc d)) (rightPath r))
 unfolding rightPath
 inner d l r t e =
@@ -165,7 +150,7 @@ insert-rightPath (suc d) (node l r) h = go (eqb d (size r)) refl (insert-rightPa
         let t = inner d l r h e in
         let w = within-any (size r) (suc d) (rightPath r) (rightPath-within r) t in
         rw (ih t, size-insert (suc d) r, keep-last (suc d) (suc (size r)) (rightPath r) (omega arith))
-        (ap (λ (l : List ℕ). 1 ∷ l) (sym (map-last (keep (suc d) (rightPath r)) (suc (size r)))))
+        (ap (λ (l : List ℕ). 1 ∷ l) (sym (map-append suc (keep (suc d) (rightPath r)) (suc (size r) ∷ []))))
 
 -- a walk that accepts grows a tree with these distances
 walk-grows : (t : Tree) (ds : List ℕ) → T (walk (rightPath t) ds) → (u : Tree) × (treeDistances u ≡ treeDistances t ++ ds)
@@ -195,14 +180,17 @@ walk-lift : (k : ℕ) (os ds : List ℕ) → Within k os → T (walk os ds) → 
 unfolding walk lift
 walk-lift k os [] w h = tt
 walk-lift k os (zero ∷ ds) w h =
-    and-join (any (eqb (suc k)) (os ++ (suc k ∷ []))) (walk (1 ∷ map suc (keep (suc k) (os ++ (suc k ∷ [])))) (lift (suc (suc k)) ds)) (any-append-last (suc k) os)
+    and-join (any (eqb (suc k)) (os ++ (suc k ∷ []))) (walk (1 ∷ map suc (keep (suc k) (os ++ (suc k ∷ [])))) (lift (suc (suc k)) ds))
+    (any-append-last (suc k) os)
     (rw (keep-last (suc k) (suc k) os (omega arith), keep-far k os w) (walk-lift (suc k) (1 ∷ []) ds (omega arith, tt) h))
 walk-lift k os (suc d ∷ ds) w h =
     let p = and-split (any (eqb (suc d)) os) (walk (1 ∷ map suc (keep (suc d) os)) ds) h in
     let q = within-any k (suc d) os w (p .0) in
     let ih = walk-lift (suc k) (1 ∷ map suc (keep (suc d) os)) ds (omega arith, within-keep k (suc d) os w) (p .1) in
-    and-join (any (eqb (suc d)) (os ++ (suc k ∷ []))) (walk (1 ∷ map suc (keep (suc d) (os ++ (suc k ∷ [])))) (lift (suc (suc k)) ds)) (any-append-left (suc d) os (suc k ∷ []) (p .0))
-    (rw (keep-last (suc d) (suc k) os (omega arith)) (subst (λ (l : List ℕ). T (walk (1 ∷ l) (lift (suc (suc k)) ds))) (sym (map-last (keep (suc d) os) (suc k))) ih))
+    and-join (any (eqb (suc d)) (os ++ (suc k ∷ []))) (walk (1 ∷ map suc (keep (suc d) (os ++ (suc k ∷ [])))) (lift (suc (suc k)) ds))
+    (any-append-left (suc d) os (suc k ∷ []) (p .0))
+    (rw (keep-last (suc d) (suc k) os (omega arith))
+    (subst (λ (l : List ℕ). T (walk (1 ∷ l) (lift (suc (suc k)) ds))) (sym (map-append suc (keep (suc d) os) (suc k ∷ []))) ih))
 
 tree-walks : (t : Tree) → T (walk [] (treeDistances t))
 unfolding treeDistances walk

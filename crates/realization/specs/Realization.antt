@@ -1,5 +1,7 @@
--- Lists of parent distances that some values have, the least such values, and the failure function. Document 01: Possible lists; Least readings; Fall length.
-use Rattle.lists.specs.Prelude.{_≡_, Bool, true, _&&_, List, [], _∷_, _++_, map, ℕ, zero, suc, pred, eqb, leb, ℤ, pos, _≤ℤ_, length, getD, take, tabulate, lastBelow, lastOf, any, select}
+-- Lists of parent distances that some values have, the least such values, and the failure function.
+-- Document 01: Possible lists; Least readings; Fall length.
+use Rattle.lists.specs.Prelude.{_≡_, Bool, true, _&&_, List, [], _∷_, _++_, map, ℕ, zero, suc, pred, eqb, leb, ℤ, pos, _≤ℤ_, length, getD, take, tabulate}
+use Rattle.lists.specs.Prelude.{lastBelow, lastOf, any, select}
 use Rattle.cartesian.specs.Cartesian.{distances, Tree, leaf, node, treeOf, tree, sameTree}
 
 -- ---- Lists of parent distances that some values have. Document 01: Possible lists.
@@ -8,7 +10,8 @@ use Rattle.cartesian.specs.Cartesian.{distances, Tree, leaf, node, treeOf, tree
 unfoldable pub Realizable : List ℕ → Type 0
 Realizable ds = (xs : List ℤ) × (distances xs ≡ ds)
 
--- ---- the decision (law `realizable-iff`): a walk over the list that keeps how far back each open place is, nearest first
+-- ---- the decision (law `realizable-iff`): a walk over the list that keeps how far back each open
+-- place is, nearest first
 
 -- a distance leads to an open place, or, where it is 0, to none
 abbrev pub leads : ℕ → List ℕ → Bool
@@ -32,7 +35,8 @@ realizable ds = walk [] ds
 abbrev pub NotNegative : List ℤ → Type 0
 NotNegative xs = (i : ℕ) → pos 0 ≤ℤ getD xs i (pos 0)
 
--- what document 01 says of the least values: they have the list, none is negative, and at every place they are no larger than any other such values
+-- what document 01 says of the least values: they have the list, none is negative, and at every
+-- place they are no larger than any other such values
 pub record IsLeast (ds : List ℕ) (xs : List ℤ) : Type 0 where
   pub has : distances xs ≡ ds
   pub notNegative : NotNegative xs
@@ -49,12 +53,10 @@ leastRealization ds = map pos (leftTurns (treeOf ds))
 
 -- ---- The failure function of a pattern. Document 01: Fall length.
 
--- of the head of n values: the length of its longest proper tail that has the tree of the head of that length (the
--- empty tail always has)
+-- of the head of n values: the length of its longest proper tail that has the tree of the head of
+-- that length (the empty tail always has)
 unfoldable pub failureLength : List ℕ → ℕ → ℕ
-failureLength ds n =
-    let xs = leastRealization ds in
-    pred (lastBelow (λ m. sameTree (tree (lastOf m (take n xs))) (tree (take m xs))) n)
+failureLength ds n = pred (lastBelow (λ m. sameTree (tree (lastOf m (take n (leastRealization ds)))) (tree (take m (leastRealization ds)))) n)
 
 -- one for each head, from the head of one value up
 unfoldable pub failureLengths : List ℕ → List ℕ

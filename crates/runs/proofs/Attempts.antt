@@ -1,18 +1,15 @@
--- The attempts of a value and the growth of the longest head together are at most two: every attempt but the last one shortens the suffix.
-use mathlib.Core.List.{List, [], _∷_, _++_}
-use Prim.Native.Nat.{ℕ, suc, _+_, _≤_, _<_}
-use native.Mathlib.Omega.{arith}
-use lib.Dec.{T, leb, leb→le}
-use lib.IntN.{ℤ}
-use lib.ListN.{length}
-use Rattle.lists.proofs.Lists.{and-split}
+-- The attempts of a value and the growth of the longest head together are at most two: every
+-- attempt but the last one shortens the suffix.
+use Rattle.lists.proofs.Prelude.{List, [], _∷_, _++_, ℕ, suc, _+_, _≤_, _<_, ℤ, T, leb, leb→le, length, arith}
+use Rattle.lists.proofs.Tests.{and-split}
+use Rattle.lists.proofs.Counting.{count-from}
 use Rattle.pattern_set.specs.PatternSet.{PatternSet, goodSet}
 use Rattle.runs.specs.ReferenceRun.{longestExtended, attempts, longestHead}
-use Rattle.runs.proofs.More.{count-from}
 use Rattle.runs.proofs.LongestHead.{headSuffix, longestExtended-le, longestHead-step}
 use Rattle.runs.proofs.Advance.{tried, attempts-tried}
 
-pub attempts-bound : (ps : PatternSet) (text : List ℤ) (x : ℤ) → T (goodSet ps) → 0 < length ps → attempts ps text x + longestHead ps (text ++ (x ∷ [])) ≤ longestHead ps text + 2
+pub attempts-bound : (ps : PatternSet) (text : List ℤ) (x : ℤ) → T (goodSet ps) → 0 < length ps
+    → attempts ps text x + longestHead ps (text ++ (x ∷ [])) ≤ longestHead ps text + 2
 attempts-bound ps text x g z =
     let q = longestExtended ps text x in
     let n = longestHead ps text in

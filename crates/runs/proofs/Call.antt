@@ -1,20 +1,14 @@
--- An accepted call of the stream search is what the reference reads: by induction on the values, one step after the other.
-use mathlib.Core.Path.{_≡_, refl, sym, _∙_, ap, ap₂, subst}
-use mathlib.Core.Bool.{Bool, true, false}
-use mathlib.Core.List.{List, [], _∷_, _++_, map, flatten, append-assoc, append-nil}
-use Prim.Native.Nat.{ℕ, suc, _+_, _*_, _-_, _≤_, _<_}
-use native.Mathlib.Omega.{arith}
-use lib.Dec.{T, ltb}
-use lib.IntN.{ℤ}
-use lib.ListN.{length}
-use lib.Seq.{take-append-le, take-all}
-use Rattle.lists.specs.Prelude.{tabulate}
-use Rattle.lists.proofs.Lists.{tabulate-ext, length-snoc}
-use Rattle.lists.proofs.Members.{flatten-tabulate}
+-- An accepted call of the stream search is what the reference reads: by induction on the values,
+-- one step after the other.
+use Rattle.lists.proofs.Prelude.{_≡_, _∙_, ap, sym, refl, subst, ap₂, Bool, true, false, List, [], _∷_, _++_, map, append-nil, append-assoc, flatten, ℕ, suc}
+use Rattle.lists.proofs.Prelude.{_+_, _-_, _*_, _≤_, _<_, ℤ, T, ltb, length, take-all, take-append-le, arith, tabulate}
+use Rattle.lists.proofs.Tables.{tabulate-ext}
+use Rattle.lists.proofs.Parts.{length-snoc}
+use Rattle.lists.proofs.Rows.{flatten-tabulate}
 use Rattle.answers.specs.declared.SearchState.{SearchState}
 use Rattle.pattern_set.specs.PatternSet.{PatternSet, goodSet}
 use Rattle.matching.specs.Matching.{lastHits, hitsAt, hits}
-use Rattle.model.specs.Search.{Stepped, step, Called, stop, andThen, feed, call}
+use Rattle.search_model.specs.Search.{Stepped, step, Called, feed, call, stop, andThen}
 use Rattle.runs.specs.ReferenceRun.{attempts, append, read, longestHead}
 use Rattle.runs.proofs.Attempts.{attempts-bound}
 use Rattle.runs.proofs.Step.{Represents, step-hits, step-attempts, step-state}
@@ -28,9 +22,11 @@ hits-same ps text x p h = ap (λ (l : List ℤ). map (λ j. (p, j)) (lastHits ps
 hits-new : (ps : PatternSet) (text : List ℤ) (x : ℤ) → hitsAt ps (text ++ (x ∷ [])) (length text) ≡ map (λ j. (length text, j)) (lastHits ps (text ++ (x ∷ [])))
 unfolding hitsAt
 hits-new ps text x =
-    ap (λ (l : List ℤ). map (λ j. (length text, j)) (lastHits ps l)) (take-all (suc (length text)) (text ++ (x ∷ [])) (let l : length (text ++ (x ∷ [])) ≤ suc (length text) = omega (arith, length-snoc text x) in l))
+    ap (λ (l : List ℤ). map (λ j. (length text, j)) (lastHits ps l))
+    (take-all (suc (length text)) (text ++ (x ∷ [])) (let l : length (text ++ (x ∷ [])) ≤ suc (length text) = omega (arith, length-snoc text x) in l))
 
-pub hits-more : (ps : PatternSet) (text : List ℤ) (x : ℤ) → hits ps (text ++ (x ∷ [])) ≡ hits ps text ++ map (λ j. (length text, j)) (lastHits ps (text ++ (x ∷ [])))
+pub hits-more : (ps : PatternSet) (text : List ℤ) (x : ℤ)
+    → hits ps (text ++ (x ∷ [])) ≡ hits ps text ++ map (λ j. (length text, j)) (lastHits ps (text ++ (x ∷ [])))
 unfolding hits
 hits-more ps text x =
     ap (λ (n : ℕ). flatten (tabulate n (hitsAt ps (text ++ (x ∷ []))))) (length-snoc text x)
@@ -41,7 +37,8 @@ hits-more ps text x =
 
 -- ---- the two ways through a value
 
-feed-full : {S : Type 0} (next : S → ℤ → Stepped S) (room : ℕ) (s : S) (free : ℕ) (x : ℤ) (xs : List ℤ) → ltb free room ≡ true → feed next room s free (x ∷ xs) ≡ stop s 0
+feed-full : {S : Type 0} (next : S → ℤ → Stepped S) (room : ℕ) (s : S) (free : ℕ) (x : ℤ) (xs : List ℤ) → ltb free room ≡ true
+    → feed next room s free (x ∷ xs) ≡ stop s 0
 unfolding feed
 feed-full next room s free x xs e = rw e refl
 
@@ -98,7 +95,8 @@ module _ (ps : PatternSet) (g : T (goodSet ps)) (z : 0 < length ps) where
       }
 
   -- AN ACCEPTED CALL reads what the reference reads
-  pub call-reads : (xs : List ℤ) (text : List ℤ) (st : SearchState) (free : ℕ) → Represents ps text st → Agrees ps text (length xs) (call ps st free xs) (read ps text free xs)
+  pub call-reads : (xs : List ℤ) (text : List ℤ) (st : SearchState) (free : ℕ) → Represents ps text st
+      → Agrees ps text (length xs) (call ps st free xs) (read ps text free xs)
   unfolding feed append
   call-reads [] text st free r = agrees-stop text st 0 1 r
   call-reads (x ∷ xs) text st free r = go (ltb free (2 * length ps)) refl (call-reads xs)
@@ -107,15 +105,22 @@ module _ (ps : PatternSet) (g : T (goodSet ps)) (z : 0 < length ps) where
           → ((text : List ℤ) (st : SearchState) (free : ℕ) → Represents ps text st → Agrees ps text (length xs) (call ps st free xs) (read ps text free xs))
           → Agrees ps text (suc (length xs)) (call ps st free (x ∷ xs)) (read ps text free (x ∷ xs))
       go true e ih =
-          subst (λ (c : Called SearchState). Agrees ps text (suc (length xs)) c (read ps text free (x ∷ xs))) (sym (feed-full (step ps) (2 * length ps) st free x xs e))
-          (subst (λ (q : Called (List ℤ)). Agrees ps text (suc (length xs)) (stop st 0) q) (sym (feed-full (append ps) (2 * length ps) text free x xs e)) (agrees-stop text st (suc (length xs)) 0 r))
+          subst (λ (c : Called SearchState). Agrees ps text (suc (length xs)) c (read ps text free (x ∷ xs)))
+          (sym (feed-full (step ps) (2 * length ps) st free x xs e))
+          (subst (λ (q : Called (List ℤ)). Agrees ps text (suc (length xs)) (stop st 0) q)
+          (sym (feed-full (append ps) (2 * length ps) text free x xs e)) (agrees-stop text st (suc (length xs)) 0 r))
       go false e ih =
           let s = step ps st x in
           let t = append ps text x in
           let l : length (s .hits) ≡ length (t .hits) = ap length (step-hits ps g z text st x r) in
           let a = ih (text ++ (x ∷ [])) (s .state) (free - 2 * length (s .hits)) (step-state ps g z text st x r) in
-          let b : Agrees ps (text ++ (x ∷ [])) (length xs) (call ps (s .state) (free - 2 * length (s .hits)) xs) (read ps (text ++ (x ∷ [])) (free - 2 * length (t .hits)) xs) =
-          subst (λ (n : ℕ). Agrees ps (text ++ (x ∷ [])) (length xs) (call ps (s .state) (free - 2 * length (s .hits)) xs) (read ps (text ++ (x ∷ [])) (free - 2 * n) xs)) l a in
-          subst (λ (c : Called SearchState). Agrees ps text (suc (length xs)) c (read ps text free (x ∷ xs))) (sym (feed-more (step ps) (2 * length ps) st free x xs e))
-          (subst (λ (q : Called (List ℤ)). Agrees ps text (suc (length xs)) (andThen s (call ps (s .state) (free - 2 * length (s .hits)) xs)) q) (sym (feed-more (append ps) (2 * length ps) text free x xs e))
-          (agrees-then text st x (length xs) (call ps (s .state) (free - 2 * length (s .hits)) xs) (read ps (text ++ (x ∷ [])) (free - 2 * length (t .hits)) xs) r b))
+          let b : Agrees ps (text ++ (x ∷ [])) (length xs) (call ps (s .state) (free - 2 * length (s .hits)) xs)
+          (read ps (text ++ (x ∷ [])) (free - 2 * length (t .hits)) xs) =
+          subst (λ (n : ℕ). Agrees ps (text ++ (x ∷ [])) (length xs) (call ps (s .state) (free - 2 * length (s .hits)) xs)
+          (read ps (text ++ (x ∷ [])) (free - 2 * n) xs)) l a in
+          subst (λ (c : Called SearchState). Agrees ps text (suc (length xs)) c (read ps text free (x ∷ xs)))
+          (sym (feed-more (step ps) (2 * length ps) st free x xs e))
+          (subst (λ (q : Called (List ℤ)). Agrees ps text (suc (length xs)) (andThen s (call ps (s .state) (free - 2 * length (s .hits)) xs)) q)
+          (sym (feed-more (append ps) (2 * length ps) text free x xs e))
+          (agrees-then text st x (length xs) (call ps (s .state) (free - 2 * length (s .hits)) xs)
+          (read ps (text ++ (x ∷ [])) (free - 2 * length (t .hits)) xs) r b))

@@ -1,11 +1,9 @@
--- Demands 1 and 2 hold: each part is a law of the crate of its topic. Demand 3 is `run-theorem` in Run.antt.
-use mathlib.Core.Path.{_≡_, refl, ap}
-use mathlib.Core.List.{_++_}
-use Prim.Native.Nat.{ℕ, zero, suc, _<_}
-use native.Mathlib.Omega.{arith}
-use lib.ListN.{length, drop}
-use Rattle.model.specs.Refusals.{firstMet, unless}
-use Rattle.model.specs.Entries.{streamConditions, streamCall}
+-- Demands 1 and 2 hold: each part is a law of the crate of its topic. Demand 3 is `run-theorem` in
+-- Run.antt.
+use Rattle.lists.proofs.Prelude.{_≡_, ap, refl, _++_, ℕ, zero, suc, _<_, length, drop, arith}
+use Rattle.entries.specs.Entries.{firstMet, unless, streamConditions}
+use Rattle.pattern_set.specs.PatternSet.{patternsOf}
+use Rattle.search_model.specs.Search.{call}
 use Rattle.cartesian.proofs.Matching.{trees-iff-distances}
 use Rattle.realization.proofs.Realizable.{realizable-iff}
 use Rattle.realization.proofs.LeastRealization.{leastRealization-least}
@@ -21,7 +19,7 @@ pub demand1 : Demand1
 demand1 = record {
   tells = λ none e h. ap (λ c. (firstMet (e .conditions), c)) (kept (firstMet (e .conditions)) (e .counts) none h);
   leaves = λ e array h. kept (firstMet (e .conditions)) (e .result ++ drop (length (e .result)) array) array h;
-  handsBack = λ ws automaton out st xs h. kept (firstMet (streamConditions ws automaton st xs out)) (streamCall ws st xs out .state) st h;
+  handsBack = λ ws automaton out st xs h. kept (firstMet (streamConditions ws automaton st xs out)) (call (patternsOf ws) st (length out) xs .state) st h;
 }
 
 pub demand2 : Demand2

@@ -1,11 +1,9 @@
 -- The root of the crate's laws.
-pub mod More
 pub mod Suffixes
 pub mod LongestHead
 pub mod Advance
 pub mod Attempts
 pub mod Listed
-pub mod MoreMinima
 pub mod Minima
 pub mod Ring
 pub mod Push

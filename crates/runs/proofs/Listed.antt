@@ -1,20 +1,15 @@
--- The patterns listed at the head of the longest suffix of a text are those with a hit at the text's last place, in the same order: the heads on its failure links are the suffixes that have the tree of some head, longest first,
--- and a window without the tree of a head has the tree of no pattern.
-use mathlib.Core.Path.{_≡_, refl, sym, _∙_, ap, ap₂, subst}
-use mathlib.Core.Bool.{Bool, true, false, cond}
-use mathlib.Core.List.{List, [], _∷_, _++_, map, flatten, append-nil, List·Memᴰ, List·Memᴰ·head, List·Memᴰ·tail}
-use Prim.Native.Nat.{ℕ, zero, suc, _+_, _≤_, _<_}
-use native.Mathlib.Omega.{arith}
-use native.Mathlib.Nat.{zero-add}
-use native.Mathlib.Decide.{decLt}
-use lib.Dec.{T}
-use lib.IntN.{ℤ}
-use lib.ListN.{length, getD, take}
-use lib.Seq.{take-all}
-use Rattle.lists.proofs.Select.{getD-mem}
-use Rattle.lists.specs.Prelude.{select, same, lastOf}
-use Rattle.lists.proofs.Lists.{tabulate-ext, test-ext, same-eq, eq-same, mem-any, lastOf-zero}
-use Rattle.lists.proofs.Order.{T-true}
+-- The patterns listed at the head of the longest suffix of a text are those with a hit at the
+-- text's last place, in the same order: the heads on its failure links are the suffixes that have
+-- the tree of some head, longest first, and a window without the tree of a head has the tree of no
+-- pattern.
+use Rattle.lists.proofs.Prelude.{_≡_, _∙_, ap, sym, refl, subst, ap₂, Bool, true, false, cond, List, [], _∷_, _++_, map, append-nil, List·Memᴰ, List·Memᴰ·head}
+use Rattle.lists.proofs.Prelude.{List·Memᴰ·tail, flatten, ℕ, zero, suc, _+_, _≤_, _<_, ℤ, T, length, getD, take, take-all, zero-add, decLt, arith, lastOf}
+use Rattle.lists.proofs.Prelude.{select, same}
+use Rattle.lists.proofs.Members.{getD-mem, mem-any}
+use Rattle.lists.proofs.Tables.{tabulate-ext}
+use Rattle.lists.proofs.Tests.{test-ext, T-true}
+use Rattle.lists.proofs.Same.{same-eq, eq-same}
+use Rattle.lists.proofs.Parts.{lastOf-zero}
 use Rattle.cartesian.specs.Cartesian.{distances}
 use Rattle.realization.specs.Realization.{realizable}
 use Rattle.pattern_set.specs.PatternSet.{PatternSet, goodSet}
@@ -22,11 +17,11 @@ use Rattle.matching.specs.Matching.{hasTree, numbersFrom, endHits, lastHits, he
 use Rattle.matching.specs.HeadLengths.{headLengths}
 use Rattle.matching.proofs.Heads.{hasTree-iff, chain-is}
 use Rattle.matching.proofs.Sizes.{hasTree-length}
-use Rattle.model.specs.Search.{endingAt, listed}
-use Rattle.runs.specs.ReferenceRun.{longestHead}
-use Rattle.runs.proofs.LongestHead.{longestHead-le, longestHead-head, longestHead-none}
+use Rattle.automaton_model.specs.Automaton.{endingAt, listed}
 use Rattle.pattern_set.proofs.Good.{good-pattern}
 use Rattle.matching.proofs.Numbers.{select-numbers}
+use Rattle.runs.specs.ReferenceRun.{longestHead}
+use Rattle.runs.proofs.LongestHead.{longestHead-le, longestHead-head, longestHead-none}
 
 -- ---- the patterns that end at one head
 
@@ -73,7 +68,8 @@ numbers-no-head ps w f = numbers-none w 0 ps (λ p m t. f (pattern-headTree ps w
 
 -- ---- along the failure links
 
-listed-lengths : (ps : PatternSet) (text : List ℤ) (n : ℕ) → T (goodSet ps) → flatten (map (endingAt ps) (map (λ m. distances (lastOf m text)) (headLengths ps text n))) ≡ endHits ps text n
+listed-lengths : (ps : PatternSet) (text : List ℤ) (n : ℕ) → T (goodSet ps)
+    → flatten (map (endingAt ps) (map (λ m. distances (lastOf m text)) (headLengths ps text n))) ≡ endHits ps text n
 unfolding headLengths endHits flatten
 listed-lengths ps text zero g =
     append-nil (endingAt ps (distances (lastOf 0 text)))
@@ -82,25 +78,31 @@ listed-lengths ps text zero g =
     ∙ numbers-empty ps g
 listed-lengths ps text (suc n) g = go (headTree ps (lastOf (suc n) text)) refl (listed-lengths ps text n g)
   where
-    go : (b : Bool) → headTree ps (lastOf (suc n) text) ≡ b → flatten (map (endingAt ps) (map (λ m. distances (lastOf m text)) (headLengths ps text n))) ≡ endHits ps text n
-        → flatten (map (endingAt ps) (map (λ m. distances (lastOf m text)) (cond b (suc n ∷ headLengths ps text n) (headLengths ps text n)))) ≡ numbersFrom 0 (lastOf (suc n) text) ps ++ endHits ps text n
+    go : (b : Bool) → headTree ps (lastOf (suc n) text) ≡ b
+        → flatten (map (endingAt ps) (map (λ m. distances (lastOf m text)) (headLengths ps text n))) ≡ endHits ps text n
+        → flatten (map (endingAt ps) (map (λ m. distances (lastOf m text)) (cond b (suc n ∷ headLengths ps text n) (headLengths ps text n))))
+        ≡ numbersFrom 0 (lastOf (suc n) text) ps ++ endHits ps text n
     go true e ih = ap₂ (λ (a b : List ℕ). a ++ b) (endingAt-is ps (lastOf (suc n) text) g) ih
     go false e ih = ih ∙ ap (λ (l : List ℕ). l ++ endHits ps text n) (sym (numbers-no-head ps (lastOf (suc n) text) (λ t. subst T e t)))
 
 -- suffixes without the tree of a head give no hits
-endHits-above : (ps : PatternSet) (text : List ℤ) (q n : ℕ) → q ≤ n → ((j : ℕ) → q < j → j ≤ n → T (headTree ps (lastOf j text)) → ⊥) → endHits ps text n ≡ endHits ps text q
+endHits-above : (ps : PatternSet) (text : List ℤ) (q n : ℕ) → q ≤ n → ((j : ℕ) → q < j → j ≤ n → T (headTree ps (lastOf j text)) → ⊥)
+    → endHits ps text n ≡ endHits ps text q
 unfolding endHits
 endHits-above ps text q zero h f = ap (endHits ps text) (let e : 0 ≡ q = omega arith in e)
 endHits-above ps text q (suc n) h f = go (decLt q (suc n)) (endHits-above ps text q n)
   where
-    go : Dec (q < suc n) → (q ≤ n → ((j : ℕ) → q < j → j ≤ n → T (headTree ps (lastOf j text)) → ⊥) → endHits ps text n ≡ endHits ps text q) → endHits ps text (suc n) ≡ endHits ps text q
+    go : Dec (q < suc n) → (q ≤ n → ((j : ℕ) → q < j → j ≤ n → T (headTree ps (lastOf j text)) → ⊥) → endHits ps text n ≡ endHits ps text q)
+        → endHits ps text (suc n) ≡ endHits ps text q
     go (yes l) ih =
         ap (λ (l : List ℕ). l ++ endHits ps text n) (numbers-no-head ps (lastOf (suc n) text) (f (suc n) l (omega arith)))
         ∙ ih (omega arith) (λ j a b. f j a (omega arith))
     go (no g) ih = ap (endHits ps text) (let e : suc n ≡ q = omega arith in e)
 
--- THE PATTERNS LISTED at the head of the text's longest suffix are those with a hit at its last place
-pub listed-is : (ps : PatternSet) (text : List ℤ) → T (goodSet ps) → 0 < length ps → listed ps (distances (lastOf (longestHead ps text) text)) ≡ lastHits ps text
+-- THE PATTERNS LISTED at the head of the text's longest suffix are those with a hit at its last
+-- place
+pub listed-is : (ps : PatternSet) (text : List ℤ) → T (goodSet ps) → 0 < length ps
+    → listed ps (distances (lastOf (longestHead ps text) text)) ≡ lastHits ps text
 unfolding listed
 listed-is ps text g z =
     let n = longestHead ps text in

@@ -1,21 +1,17 @@
--- The longest suffix of a text that has the tree of some head, and the longest one that has it also with the next value behind it: the latter, with that value, is the longest such suffix of the longer text.
-use mathlib.Core.Path.{_≡_, sym, subst}
-use mathlib.Core.Bool.{Bool, _&&_}
-use mathlib.Core.List.{List, [], _∷_, _++_}
-use Prim.Native.Nat.{ℕ, zero, suc, _≤_, _<_}
-use native.Mathlib.Omega.{arith}
-use lib.Dec.{T}
-use lib.IntN.{ℤ}
-use lib.ListN.{length, take, length-take}
-use Rattle.lists.specs.Prelude.{lastOf}
-use Rattle.lists.proofs.Lists.{and-split, and-join, any-mem, length-lastOf, lastOf-snoc, length-snoc}
+-- The longest suffix of a text that has the tree of some head, and the longest one that has it also
+-- with the next value behind it: the latter, with that value, is the longest such suffix of the
+-- longer text.
+use Rattle.lists.proofs.Prelude.{_≡_, sym, subst, Bool, _&&_, List, [], _∷_, _++_, ℕ, zero, suc, _≤_, _<_, ℤ, T, length, take, length-take, arith, lastOf}
+use Rattle.lists.proofs.Tests.{and-split, and-join}
+use Rattle.lists.proofs.Members.{any-mem}
+use Rattle.lists.proofs.Parts.{lastOf-snoc, length-snoc}
+use Rattle.lists.proofs.LastBelow.{greatest-le, greatest-passes, greatest-none, greatest-is, greatest-most}
 use Rattle.pattern_set.specs.PatternSet.{PatternSet, goodSet}
 use Rattle.matching.specs.Matching.{hasTree, headTree}
 use Rattle.matching.proofs.Sizes.{hasTree-length}
-use Rattle.runs.specs.ReferenceRun.{longestExtended, longestHead}
-use Rattle.runs.proofs.More.{greatest-le, greatest-passes, greatest-none, greatest-is, greatest-most}
-use Rattle.runs.proofs.Suffixes.{headTree-shorter, empty-suffix, one-suffix}
 use Rattle.pattern_set.proofs.Good.{good-pattern}
+use Rattle.runs.specs.ReferenceRun.{longestExtended, longestHead}
+use Rattle.runs.proofs.Suffixes.{headTree-shorter, empty-suffix, one-suffix}
 
 -- has the suffix of m values the tree of some head
 abbrev pub headSuffix : PatternSet → List ℤ → ℕ → Bool
@@ -50,25 +46,21 @@ headTree-length ps w g t =
     let b = good-pattern ps (r .0) g (r .1) in
     omega (arith, e, l, b .1)
 
-pub longestHead-256 : (ps : PatternSet) (text : List ℤ) → T (goodSet ps) → 0 < length ps → longestHead ps text ≤ 256
-longestHead-256 ps text g z =
-    let h = headTree-length ps (lastOf (longestHead ps text) text) g (longestHead-head ps text z) in
-    let l = length-lastOf (longestHead ps text) text (longestHead-le ps text) in
-    omega (arith, h, l)
-
 -- ---- the longest one that has it also with the value behind it
 
 pub longestExtended-short : (ps : PatternSet) (text : List ℤ) (x : ℤ) → longestExtended ps text x ≤ length text
 unfolding longestExtended
 longestExtended-short ps text x = greatest-le (extendedSuffix ps text x) (length text)
 
-pub longestExtended-passes : (ps : PatternSet) (text : List ℤ) (x : ℤ) → T (goodSet ps) → 0 < length ps → T (extendedSuffix ps text x (longestExtended ps text x))
+pub longestExtended-passes : (ps : PatternSet) (text : List ℤ) (x : ℤ) → T (goodSet ps) → 0 < length ps
+    → T (extendedSuffix ps text x (longestExtended ps text x))
 unfolding longestExtended
 longestExtended-passes ps text x g z =
     greatest-passes (extendedSuffix ps text x) (length text)
     (and-join (headTree ps (lastOf 0 text)) (headTree ps (lastOf 0 text ++ (x ∷ []))) (empty-suffix ps text z) (one-suffix ps text x g z))
 
-pub longestExtended-none : (ps : PatternSet) (text : List ℤ) (x : ℤ) (j : ℕ) → longestExtended ps text x < j → j ≤ length text → T (extendedSuffix ps text x j) → ⊥
+pub longestExtended-none : (ps : PatternSet) (text : List ℤ) (x : ℤ) (j : ℕ) → longestExtended ps text x < j → j ≤ length text
+    → T (extendedSuffix ps text x j) → ⊥
 unfolding longestExtended
 longestExtended-none ps text x j = greatest-none (extendedSuffix ps text x) (length text) j
 
@@ -81,7 +73,8 @@ longestExtended-le ps text x g z =
 
 -- ---- one more value
 
-pub longestHead-step : (ps : PatternSet) (text : List ℤ) (x : ℤ) → T (goodSet ps) → 0 < length ps → longestHead ps (text ++ (x ∷ [])) ≡ suc (longestExtended ps text x)
+pub longestHead-step : (ps : PatternSet) (text : List ℤ) (x : ℤ) → T (goodSet ps) → 0 < length ps
+    → longestHead ps (text ++ (x ∷ [])) ≡ suc (longestExtended ps text x)
 unfolding longestHead
 longestHead-step ps text x g z =
     let q = longestExtended ps text x in

@@ -1,36 +1,29 @@
--- One step of the stream search is one step of the reference: what a state that represents a text does with one more value.
-use mathlib.Core.Path.{_≡_, refl, sym, _∙_, ap, ap₂, subst}
-use mathlib.Core.Bool.{Bool, true, false, cond, _&&_}
-use mathlib.Core.List.{List, [], _∷_, _++_, map}
-use Prim.Native.Nat.{ℕ, zero, suc, _-_, _≤_, _<_}
-use native.Mathlib.Omega.{arith}
-use native.Mathlib.Nat.{le-refl}
-use native.Mathlib.Decide.{decLt}
-use lib.Dec.{T, leb, ltb, lt→ltb, le→leb}
-use lib.IntN.{ℤ}
-use lib.ListN.{length, length-append}
-use lib.Seq.{drop-nil}
-use Rattle.lists.specs.Prelude.{lastOf, tabulate}
-use Rattle.lists.proofs.Lists.{and-join, length-lastOf}
-use Rattle.lists.proofs.Order.{T-true}
+-- One step of the stream search is one step of the reference: what a state that represents a text
+-- does with one more value.
+use Rattle.lists.proofs.Prelude.{_≡_, _∙_, ap, sym, refl, subst, ap₂, Bool, true, false, cond, _&&_, _||_, List, [], _∷_, _++_, map, ℕ, zero, suc, _+_, _-_}
+use Rattle.lists.proofs.Prelude.{_≤_, _<_, ℤ, T, eqb, leb, ltb, le→leb, lt→ltb, length, length-append, drop-nil, le-refl, decLt, arith, eq-eqb, lastOf}
+use Rattle.lists.proofs.Prelude.{tabulate}
+use Rattle.lists.proofs.Tests.{and-join, or-left, or-right, T-true}
+use Rattle.lists.proofs.Parts.{length-lastOf}
 use Rattle.answers.specs.declared.SearchState.{SearchState}
-use Rattle.answers.specs.NewSearch.{newSearch}
+use Rattle.answers.specs.Told.{newSearch}
 use Rattle.cartesian.specs.Cartesian.{distanceAt, distances, cut, treeOfWithin, treeOf}
 use Rattle.cartesian.proofs.Seek.{length-distances}
 use Rattle.realization.specs.Realization.{leftTurns, leastRealization}
 use Rattle.pattern_set.specs.PatternSet.{PatternSet, goodSet}
 use Rattle.matching.specs.Matching.{lastHits, isHead, failure}
 use Rattle.matching.proofs.Heads.{headTree-isHead}
-use Rattle.model.specs.Automaton.{nodes, headOf, nodeOf}
-use Rattle.model.specs.Search.{goodMinima, goodState, distanceOf, pushed, extended, advanceWithin, advance, listed, step}
+use Rattle.automaton_model.specs.Automaton.{nodes, headOf, nodeOf, extended, advanceWithin, advance, listed}
+use Rattle.search_model.specs.Ring.{goodRing, distanceOf, pushed}
+use Rattle.search_model.specs.Search.{ringOf, goodState, step}
+use Rattle.automaton_model.proofs.Nodes.{head-node, head-length, node-root, failure-shorter}
+use Rattle.pattern_set.proofs.Good.{good-realizable}
 use Rattle.runs.specs.ReferenceRun.{attempts, longestHead}
-use Rattle.model.proofs.Nodes.{head-node, head-length, node-root, failure-shorter}
 use Rattle.runs.proofs.LongestHead.{longestHead-le, longestHead-head, longestHead-step}
 use Rattle.runs.proofs.Advance.{advance-is}
 use Rattle.runs.proofs.Listed.{listed-is}
-use Rattle.runs.proofs.Minima.{Minima, minima-new, minima-good}
+use Rattle.runs.proofs.Minima.{Minima, minima-new, minima-good, minima-some}
 use Rattle.runs.proofs.Push.{minima-pushed, distance-cut}
-use Rattle.pattern_set.proofs.Good.{good-realizable}
 
 -- the distances of the longest suffix of the text that has the tree of some head
 abbrev pub reached : PatternSet → List ℤ → List ℕ
@@ -38,7 +31,8 @@ reached ps text = distances (lastOf (longestHead ps text) text)
 
 -- the state is that of a search over the text
 pub record Represents (ps : PatternSet) (text : List ℤ) (st : SearchState) : Type 0 where
-  pub minima : Minima text st
+  pub count : st .taken ≡ length text
+  pub minima : Minima text (ringOf st)
   pub node : st .node ≡ nodeOf ps (reached ps text)
 
 empty-least : (h : List ℕ) → length h ≤ 0 → leastRealization h ≡ []
@@ -74,7 +68,9 @@ module _ (ps : PatternSet) (g : T (goodSet ps)) (z : 0 < length ps) where
       long d f = no-head (isHead ps (extended h d)) refl
         where
           no-head : (b : Bool) → isHead ps (extended h d) ≡ b → b ≡ false
-          no-head true q = absurd (let l = head-length ps g (extended h d) (T-true (isHead ps (extended h d)) q) in let w : ⊥ = omega (arith, length-append h (cut (length h) d ∷ []), l, f) in w)
+          no-head true q =
+              absurd (let l = head-length ps g (extended h d) (T-true (isHead ps (extended h d)) q) in let w : ⊥ = omega
+              (arith, length-append h (cut (length h) d ∷ []), l, f) in w)
           no-head false q = refl
 
       go : Dec (length h < 256) → isHead ps (extended h d) ≡ isHead ps (extended h e)
@@ -96,7 +92,8 @@ module _ (ps : PatternSet) (g : T (goodSet ps)) (z : 0 < length ps) where
           short (no f) = omega (arith, empty-failure ps h (let w : length h ≤ 0 = omega arith in w))
 
       go : (b : Bool) → isHead ps (extended h e) ≡ b → advanceWithin k ps (failure ps h) d ≡ advanceWithin k ps (failure ps h) e
-          → _≡_ {A = List ℕ × ℕ} (cond b (extended h d, 1) (advanceWithin k ps (failure ps h) d .0, suc (advanceWithin k ps (failure ps h) d .1))) (cond b (extended h e, 1) (advanceWithin k ps (failure ps h) e .0, suc (advanceWithin k ps (failure ps h) e .1)))
+          → _≡_ {A = List ℕ × ℕ} (cond b (extended h d, 1) (advanceWithin k ps (failure ps h) d .0, suc (advanceWithin k ps (failure ps h) d .1)))
+          (cond b (extended h e, 1) (advanceWithin k ps (failure ps h) e .0, suc (advanceWithin k ps (failure ps h) e .1)))
       go true q ih =
           let l = head-length ps g (extended h e) (T-true (isHead ps (extended h e)) q) in
           ap (λ (v : ℕ). (h ++ (v ∷ []), 1)) (c (length h) (omega (arith, l, length-append h (cut (length h) e ∷ []))))
@@ -104,20 +101,22 @@ module _ (ps : PatternSet) (g : T (goodSet ps)) (z : 0 < length ps) where
 
   -- the head reached and the attempts made by one value
   pub advance-state : (text : List ℤ) (st : SearchState) (x : ℤ) → Represents ps text st
-      → advance ps (headOf ps (st .node)) (distanceOf st x) ≡ (reached ps (text ++ (x ∷ [])), attempts ps text x)
+      → advance ps (headOf ps (st .node)) (distanceOf (st .taken) (ringOf st) x) ≡ (reached ps (text ++ (x ∷ [])), attempts ps text x)
   advance-state text st x r =
       let D = distanceAt (text ++ (x ∷ [])) (length text) in
-      ap (λ (h : List ℕ). advance ps h (distanceOf st x)) (node-reached text st r)
-      ∙ advance-same (length (reached ps text)) (reached ps text) (distanceOf st x) D (le-refl (length (reached ps text))) (distance-cut text st x (r .minima))
+      let d = distanceOf (length text) (ringOf st) x in
+      ap₂ (λ (h : List ℕ) (t : ℕ). advance ps h (distanceOf t (ringOf st) x)) (node-reached text st r) (r .count)
+      ∙ advance-same (length (reached ps text)) (reached ps text) d D (le-refl (length (reached ps text))) (distance-cut text (ringOf st) x (r .minima))
       ∙ advance-is ps text x D g z (λ m l. refl)
       ∙ ap (λ (n : ℕ). (distances (lastOf n (text ++ (x ∷ []))), attempts ps text x)) (sym (longestHead-step ps text x g z))
 
-  -- ONE STEP: hits and attempts are those of the reference, and the state represents the text with the value
+  -- ONE STEP: hits and attempts are those of the reference, and the state represents the text with
+  -- the value
   pub step-hits : (text : List ℤ) (st : SearchState) (x : ℤ) → Represents ps text st
       → step ps st x .hits ≡ map (λ j. (length text, j)) (lastHits ps (text ++ (x ∷ [])))
   unfolding step
   step-hits text st x r =
-      ap₂ (λ (t : ℕ) (h : List ℕ). map (λ j. (t, j)) (listed ps h)) (r .minima .count) (ap (λ (p : List ℕ × ℕ). p .0) (advance-state text st x r))
+      ap₂ (λ (t : ℕ) (h : List ℕ). map (λ j. (t, j)) (listed ps h)) (r .count) (ap (λ (p : List ℕ × ℕ). p .0) (advance-state text st x r))
       ∙ ap (map (λ j. (length text, j))) (listed-is ps (text ++ (x ∷ [])) g z)
 
   pub step-attempts : (text : List ℤ) (st : SearchState) (x : ℤ) → Represents ps text st → step ps st x .attempts ≡ attempts ps text x
@@ -125,27 +124,41 @@ module _ (ps : PatternSet) (g : T (goodSet ps)) (z : 0 < length ps) where
   step-attempts text st x r = ap (λ (p : List ℕ × ℕ). p .1) (advance-state text st x r)
 
   pub step-state : (text : List ℤ) (st : SearchState) (x : ℤ) → Represents ps text st → Represents ps (text ++ (x ∷ [])) (step ps st x .state)
-  unfolding step pushed
+  unfolding step
   step-state text st x r =
       record {
-        minima = minima-pushed text st x (nodeOf ps (advance ps (headOf ps (st .node)) (distanceOf st x) .0)) (r .minima);
+        count = ap (λ (n : ℕ). n + 1) (r .count) ∙ sym (length-append text (x ∷ []));
+        minima = subst (λ (n : ℕ). Minima (text ++ (x ∷ [])) (pushed n (ringOf st) x)) (sym (r .count)) (minima-pushed text (ringOf st) x (r .minima));
         node = ap (λ (p : List ℕ × ℕ). nodeOf ps (p .0)) (advance-state text st x r);
       }
 
   -- a new search represents the empty text
   pub new-represents : Represents ps [] newSearch
-  new-represents = record { minima = minima-new; node = sym (ap (nodeOf ps) (distances-nil (longestHead ps [])) ∙ node-root ps g z .1) }
+  new-represents = record { count = refl; minima = minima-new; node = sym (ap (nodeOf ps) (distances-nil (longestHead ps [])) ∙ node-root ps g z .1) }
 
   -- a state that represents a text passes check 8
   pub represents-good : (text : List ℤ) (st : SearchState) → Represents ps text st → length text ≤ 1048576 → T (goodState ps st)
   unfolding goodState
   represents-good text st r l =
       let n = head-node ps g (reached ps text) (reached-head text) in
-      let a : T (ltb (st .node) (length (nodes ps))) = lt→ltb (st .node) (length (nodes ps)) (subst (λ (k : ℕ). k < length (nodes ps)) (sym (r .node)) (n .0)) in
+      let a : T (ltb (st .node) (length (nodes ps))) = lt→ltb (st .node) (length (nodes ps))
+      (subst (λ (k : ℕ). k < length (nodes ps)) (sym (r .node)) (n .0)) in
       let b : T (leb (length (headOf ps (st .node))) (st .taken)) =
-      le→leb (length (headOf ps (st .node))) (st .taken) (subst (λ (h : List ℕ). length h ≤ st .taken) (sym (node-reached text st r)) (omega (arith, length-reached text, longestHead-le ps text, r .minima .count))) in
-      let c : T (leb (st .taken) 1048576) = le→leb (st .taken) 1048576 (omega (arith, r .minima .count)) in
-      and-join (ltb (st .node) (length (nodes ps)) && leb (length (headOf ps (st .node))) (st .taken) && leb (st .taken) 1048576) (goodMinima st)
-      (and-join (ltb (st .node) (length (nodes ps)) && leb (length (headOf ps (st .node))) (st .taken)) (leb (st .taken) 1048576)
-      (and-join (ltb (st .node) (length (nodes ps))) (leb (length (headOf ps (st .node))) (st .taken)) a b) c)
-      (minima-good text st (r .minima))
+      le→leb (length (headOf ps (st .node))) (st .taken)
+      (subst (λ (h : List ℕ). length h ≤ st .taken) (sym (node-reached text st r))
+      (omega (arith, length-reached text, longestHead-le ps text, r .count))) in
+      let c : T (leb (st .taken) 1048576) = le→leb (st .taken) 1048576 (omega (arith, r .count)) in
+      let ring = goodRing (st .taken) (ringOf st) in
+      let d : T ring = subst (λ (n : ℕ). T (goodRing n (ringOf st))) (sym (r .count)) (minima-good text (ringOf st) (r .minima)) in
+      let inside = ltb (st .node) (length (nodes ps)) in
+      let deep = leb (length (headOf ps (st .node))) (st .taken) in
+      let few = leb (st .taken) 1048576 in
+      and-join (inside && deep && few && ring) (ltb 0 (st .minima) || eqb (st .taken) 0)
+      (and-join (inside && deep && few) ring (and-join (inside && deep) few (and-join inside deep a b) c) d)
+      (some (decLt 0 (st .taken)))
+    where
+      some : Dec (0 < st .taken) → T (ltb 0 (st .minima) || eqb (st .taken) 0)
+      some (yes h) =
+          or-left (ltb 0 (st .minima)) (eqb (st .taken) 0) (lt→ltb 0 (st .minima)
+          (minima-some text (ringOf st) (r .minima) (omega (arith, r .count))))
+      some (no f) = or-right (ltb 0 (st .minima)) (eqb (st .taken) 0) (T-true (eqb (st .taken) 0) (eq-eqb (st .taken) 0 (omega arith)))

@@ -1,21 +1,15 @@
--- The suffixes of a text with one more value: which of them have the tree of some head, and their distances, of which only the last one is new.
-use mathlib.Core.Path.{_≡_, refl, sym, _∙_, ap, ap₂, subst}
-use mathlib.Core.List.{List, [], _∷_, _++_, List·Memᴰ·head}
-use Prim.Native.Nat.{ℕ, suc, _+_, _-_, _≤_, _<_}
-use native.Mathlib.Omega.{arith}
-use lib.Dec.{T}
-use lib.IntN.{ℤ}
-use lib.ListN.{length, take}
-use lib.Seq.{take-suc, take-all, take-append-seam, drop-append-le}
-use Rattle.lists.specs.Prelude.{any, lastOf}
-use Rattle.lists.proofs.Lists.{length-lastOf, lastOf-zero, length-snoc}
+-- The suffixes of a text with one more value: which of them have the tree of some head, and their
+-- distances, of which only the last one is new.
+use Rattle.lists.proofs.Prelude.{_≡_, _∙_, ap, sym, refl, subst, ap₂, List, [], _∷_, _++_, List·Memᴰ·head, ℕ, suc, _+_, _-_, _≤_, _<_, ℤ, T, length, take}
+use Rattle.lists.proofs.Prelude.{take-suc, take-all, take-append-seam, drop-append-le, arith, lastOf, any}
+use Rattle.lists.proofs.Parts.{length-lastOf, lastOf-zero, length-snoc}
 use Rattle.cartesian.specs.Cartesian.{leftmostFrom, leftmost, treeWithin, tree, sameTree, distanceAt, distances, cut, treeOfWithin, treeOf}
 use Rattle.cartesian.proofs.Seek.{length-distances, getD-distances, distanceAt-drop}
 use Rattle.cartesian.proofs.ByList.{distances-take}
 use Rattle.pattern_set.specs.PatternSet.{PatternSet, goodSet}
 use Rattle.matching.specs.Matching.{hasTree, isHead, headTree}
 use Rattle.matching.proofs.Heads.{headTree-isHead, head-shorter, empty-headTree}
-use Rattle.model.specs.Search.{extended}
+use Rattle.automaton_model.specs.Automaton.{extended}
 use Rattle.pattern_set.proofs.Good.{good-pattern, good-realizable}
 
 -- ---- the patterns of a good set
@@ -36,7 +30,8 @@ one-headTree (p ∷ ps) x g z = go p (good-pattern (p ∷ ps) p g (List·Memᴰ�
 pub headTree-shorter : (ps : PatternSet) (w : List ℤ) (x : ℤ) → T (goodSet ps) → T (headTree ps (w ++ (x ∷ []))) → T (headTree ps w)
 headTree-shorter ps w x g t =
     let r = good-realizable ps g in
-    let e : take (length w) (distances (w ++ (x ∷ []))) ≡ distances w = sym (distances-take (length w) (w ++ (x ∷ []))) ∙ ap distances (take-append-seam w (x ∷ [])) in
+    let e : take (length w) (distances (w ++ (x ∷ []))) ≡ distances w = sym (distances-take (length w) (w ++ (x ∷ []))) ∙ ap distances
+    (take-append-seam w (x ∷ [])) in
     let h = head-shorter ps (distances (w ++ (x ∷ []))) (length w) (subst T (headTree-isHead ps (w ++ (x ∷ [])) r) t) in
     subst T (sym (headTree-isHead ps w r)) (subst (λ (l : List ℕ). T (isHead ps l)) e h)
 
@@ -63,7 +58,8 @@ distances-snoc w x =
     (getD-distances v 0 (length w) (omega arith))
 
 -- the last distance of a suffix with the value behind it is that of the whole text, cut
-pub distance-suffix : (m : ℕ) (text : List ℤ) (x : ℤ) → m ≤ length text → distanceAt (lastOf m text ++ (x ∷ [])) m ≡ cut m (distanceAt (text ++ (x ∷ [])) (length text))
+pub distance-suffix : (m : ℕ) (text : List ℤ) (x : ℤ) → m ≤ length text
+    → distanceAt (lastOf m text ++ (x ∷ [])) m ≡ cut m (distanceAt (text ++ (x ∷ [])) (length text))
 distance-suffix m text x h =
     let a = length text - m in
     let e : a + m ≡ length text = omega arith in
@@ -71,13 +67,15 @@ distance-suffix m text x h =
     ∙ distanceAt-drop (text ++ (x ∷ [])) a m
     ∙ ap (λ (k : ℕ). cut m (distanceAt (text ++ (x ∷ [])) k)) e
 
-pub distances-suffix : (m : ℕ) (text : List ℤ) (x : ℤ) → m ≤ length text → distances (lastOf m text ++ (x ∷ [])) ≡ distances (lastOf m text) ++ (cut m (distanceAt (text ++ (x ∷ [])) (length text)) ∷ [])
+pub distances-suffix : (m : ℕ) (text : List ℤ) (x : ℤ) → m ≤ length text
+    → distances (lastOf m text ++ (x ∷ [])) ≡ distances (lastOf m text) ++ (cut m (distanceAt (text ++ (x ∷ [])) (length text)) ∷ [])
 distances-suffix m text x h =
     distances-snoc (lastOf m text) x
     ∙ ap (λ (d : ℕ). distances (lastOf m text) ++ (d ∷ []))
     (ap (distanceAt (lastOf m text ++ (x ∷ []))) (length-lastOf m text h) ∙ distance-suffix m text x h)
 
--- the head of a suffix, with the distance added, has the distances of the suffix with the value behind it
+-- the head of a suffix, with the distance added, has the distances of the suffix with the value
+-- behind it
 pub extended-is : (m : ℕ) (text : List ℤ) (x : ℤ) (d : ℕ) → m ≤ length text → cut m d ≡ cut m (distanceAt (text ++ (x ∷ [])) (length text))
     → extended (distances (lastOf m text)) d ≡ distances (lastOf m text ++ (x ∷ []))
 extended-is m text x d h e =

@@ -1,11 +1,12 @@
--- The reference run of a list of stream search calls, by trees. Document 01: A run of ladder searches; Run book; Trials.
-use Rattle.lists.specs.Prelude.{Bool, cond, not, _&&_, _||_, Option, none, some, List, [], _∷_, _++_, map, ℕ, suc, pred, _+_, _*_, leb, ltb, ℤ, pos, leZ, length, getD, tabulate, lastBelow, lastOf, all, select, begins}
+-- The reference run of a list of stream search calls, by trees. Document 01: A run of ladder
+-- searches; Run book; Trials.
+use Rattle.lists.specs.Prelude.{Bool, cond, not, _&&_, _||_, Option, none, some, List, [], _∷_, _++_, map, ℕ, suc, pred, _+_, _*_, leb, ltb, ℤ, pos, leZ}
+use Rattle.lists.specs.Prelude.{length, getD, tabulate, lastBelow, lastOf, all, select, begins}
 use Rattle.pattern_set.specs.PatternSet.{PatternSet, setWords}
 use Rattle.matching.specs.Matching.{lastHits, headTree}
-use Rattle.model.specs.Refusals.{firstMet, unless, told, after}
-use Rattle.model.specs.Automaton.{automatonWords}
-use Rattle.model.specs.Search.{Stepped, Called, feed}
-use Rattle.model.specs.Entries.{Counts, calledEntry}
+use Rattle.entries.specs.Entries.{Conditions, firstMet, unless, told, after, Counts, calledEntry}
+use Rattle.automaton_model.specs.Automaton.{automatonWords}
+use Rattle.search_model.specs.Search.{Stepped, Called, feed}
 
 -- what a caller lends
 pub record Call : Type 0 where
@@ -14,14 +15,16 @@ pub record Call : Type 0 where
   pub values : List ℤ
   pub hits : List ℕ
 
--- what is seen of a call: what it tells, or, where it is lent another set, only that it is refused; and its hit array afterwards
+-- what is seen of a call: what it tells, or, where it is lent another set, only that it is refused;
+-- and its hit array afterwards
 pub record Seen : Type 0 where
   pub tells : Option (ℕ × Counts)
   pub leaves : List ℕ
 
 -- ---- attempts of the value x after the text
 
--- the longest suffix of the text that has the tree of some head, and has so with the value added behind it
+-- the longest suffix of the text that has the tree of some head, and has so with the value added
+-- behind it
 unfoldable pub longestExtended : PatternSet → List ℤ → ℤ → ℕ
 longestExtended ps text x = pred (lastBelow (λ n. headTree ps (lastOf n text) && headTree ps (lastOf n text ++ (x ∷ []))) (suc (length text)))
 
@@ -33,8 +36,7 @@ attempts ps text x = length (select (λ n. leb (longestExtended ps text x) n && 
 
 unfoldable pub append : PatternSet → List ℤ → ℤ → Stepped (List ℤ)
 append ps text x =
-    let more = text ++ (x ∷ []) in
-    record { state = more; hits = map (λ j. (length text, j)) (lastHits ps more); attempts = attempts ps text x }
+    record { state = text ++ (x ∷ []); hits = map (λ j. (length text, j)) (lastHits ps (text ++ (x ∷ []))); attempts = attempts ps text x }
 
 -- an accepted call: while values are left and two words a pattern are free
 abbrev pub read : PatternSet → List ℤ → ℕ → List ℤ → Called (List ℤ)
@@ -47,13 +49,16 @@ abbrev pub isLent : PatternSet → Call → Bool
 isLent ps c = begins (c .set) (setWords ps)
 
 -- what is seen of a call under these conditions that does this where it is accepted
-abbrev pub seenOf : {S : Type 0} → PatternSet → List (ℕ × Bool) → Called S → Call → Seen
-seenOf ps conditions r c = record { tells = cond (isLent ps c) (some (told (0, 0, 0, 0) (calledEntry conditions r))) none; leaves = after (calledEntry conditions r) (c .hits) }
+abbrev pub seenOf : {S : Type 0} → PatternSet → Conditions → Called S → Call → Seen
+seenOf ps cs r c =
+    record { tells = cond (isLent ps c) (some (told (0, 0, 0, 0) (calledEntry cs r))) none; leaves = after (calledEntry cs r) (c .hits) }
 
--- a call lent another set is refused; of one lent the set the refusals that can concern it, where 9 counts from the text
-abbrev pub runConditions : PatternSet → List ℤ → Call → List (ℕ × Bool)
+-- a call lent another set is refused; of one lent the set the refusals that can concern it, where 9
+-- counts from the text
+abbrev pub runConditions : PatternSet → List ℤ → Call → Conditions
 runConditions ps text c =
-    (1, not (isLent ps c)) ∷ (7, not (begins (c .automaton) (automatonWords ps))) ∷ (9, ltb 1048576 (length text + length (c .values))) ∷ (10, ltb (length (c .hits)) (2 * length ps)) ∷ []
+    (1, not (isLent ps c)) ∷ (7, not (begins (c .automaton) (automatonWords ps))) ∷ (9, ltb 1048576 (length text + length (c .values))) ∷
+    (10, ltb (length (c .hits)) (2 * length ps)) ∷ []
 
 -- what is seen of a call after the text, and the text after it
 unfoldable pub referenceCall : PatternSet → List ℤ → Call → Seen × List ℤ

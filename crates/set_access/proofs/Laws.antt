@@ -1,33 +1,19 @@
--- What is known of a set array that is good: it begins with the words of its patterns, so that each pattern lies between two of the offsets, and each pattern is good.
-use mathlib.Core.Path.{_≡_, refl, sym, _∙_, ap, ap₂}
-use mathlib.Core.Bool.{false}
-use mathlib.Core.List.{List, [], _++_, flatten}
-use mathlib.Core.Option.{Option, none, some}
-use Prim.Native.Nat.{ℕ, suc, _+_, _-_, _≤_, _<_}
-use native.Mathlib.Omega.{arith}
-use native.Mathlib.Decide.{decLt}
-use native.Mathlib.Numerals.{add-one}
-use lib.Dec.{T}
-use lib.ListN.{length, getD, take, drop, length-append, List·getD-eq-default}
-use lib.Seq.{getD-take, getD-drop}
-use Rattle.lists.proofs.Select.{getD-mem}
-use Rattle.lists.proofs.Members.{length-flatten-suc, length-flatten-take}
-use Rattle.lists.specs.Prelude.{begins}
-use Rattle.lists.proofs.Lists.{all-mem, begins-iff, getD-tabulate}
+-- What is known of a set array that is good: it begins with the words of its patterns, so that each
+-- pattern lies between two of the offsets, and each pattern is good.
+use Rattle.lists.proofs.Prelude.{_≡_, _∙_, ap, sym, ap₂, List, [], _++_, flatten, ℕ, suc, _+_, _-_, _≤_, _<_, T, length, getD, take, drop, length-append}
+use Rattle.lists.proofs.Prelude.{List·getD-eq-default, getD-take, getD-drop, add-one, decLt, arith}
+use Rattle.lists.proofs.Members.{getD-mem, all-mem}
+use Rattle.lists.proofs.Rows.{length-flatten-suc, length-flatten-take}
+use Rattle.lists.proofs.Same.{begins-iff}
+use Rattle.lists.proofs.Tables.{getD-tabulate}
 use Rattle.cartesian.specs.Cartesian.{distances}
 use Rattle.cartesian.proofs.Seek.{getD-distances, distance-le}
 use Rattle.realization.specs.Realization.{realizable, leastRealization}
 use Rattle.realization.proofs.LeastRealization.{least-distances, length-least}
-use Rattle.pattern_set.specs.PatternSet.{PatternSet, setWords, goodPattern, goodSet, patternIn, patternsIn, readSet}
+use Rattle.pattern_set.specs.PatternSet.{PatternSet, setWords, goodPattern, patternIn, patternsIn, patternsOf, IsSet}
 use Rattle.pattern_set.proofs.Words.{length-setWords, patternsIn-words, words-count, words-offset}
-use Rattle.pattern_set.proofs.ReadSet.{readSet-iff}
-use Rattle.model.specs.Entries.{isBroken, setOf}
-use Rattle.set_access.specs.Patterns.{patternsOf, Good}
+use Rattle.pattern_set.proofs.IsSet.{set-good, set-begins}
 use Rattle.pattern_set.proofs.Good.{goodPattern-parts, goodSet-parts}
-
--- ---- the first words of a set
-
--- ---- what a good set is
 
 -- a distance of a realizable list is at most its place; behind the list `getD` gives 0
 pub realizable-le-place : (ds : List ℕ) → T (realizable ds) → (i : ℕ) → getD ds i 0 ≤ i
@@ -42,32 +28,18 @@ realizable-le-place ds r i = go (decLt i (length ds))
 
 -- ---- of a good array
 
-good-some : (ws : List ℕ) → Good ws → readSet ws ≡ some (patternsOf ws)
-good-some ws g = go (readSet ws) g
-  where
-    go : (o : Option PatternSet) → isBroken o ≡ false → o ≡ some (setOf o)
-    go none e = absurd (let z : _≡_ {A = ℕ} 0 1 = cc in let u : ⊥ = omega arith in u)
-    go (some ps) e = refl
-
-module _ (ws : List ℕ) (good : Good ws) where
-  -- its set is a good one
-  pub good-set : T (goodSet (patternsOf ws))
-  good-set = readSet-iff ws (patternsOf ws) .0 (good-some ws good) .0
-
-  pub begins-words : T (begins ws (setWords (patternsOf ws)))
-  begins-words = readSet-iff ws (patternsOf ws) .0 (good-some ws good) .1
-
+module _ (ws : List ℕ) (good : IsSet ws) where
   -- the array is the words of its set, and a rest
   pub words-and-rest : (rest : List ℕ) × (ws ≡ setWords (patternsOf ws) ++ rest)
-  words-and-rest = begins-iff ws (setWords (patternsOf ws)) .0 begins-words
+  words-and-rest = begins-iff ws (setWords (patternsOf ws)) .0 (set-begins ws good)
 
   -- ---- sizes
 
   pub count-le : length (patternsOf ws) ≤ 64
-  count-le = goodSet-parts (patternsOf ws) good-set .0
+  count-le = goodSet-parts (patternsOf ws) (set-good ws good) .0
 
   pub total-le : length (flatten (patternsOf ws)) ≤ 4096
-  total-le = goodSet-parts (patternsOf ws) good-set .1
+  total-le = goodSet-parts (patternsOf ws) (set-good ws good) .1
 
   -- the words of the set lie in the array
   pub set-fits : 3 + length (patternsOf ws) + length (flatten (patternsOf ws)) ≤ length ws
@@ -83,12 +55,9 @@ module _ (ws : List ℕ) (good : Good ws) where
   offset-small j = omega (arith, offset-le j, total-le)
 
   -- and with it
-  pub offset-next : (j : ℕ) → j < length (patternsOf ws) → length (flatten (take (suc j) (patternsOf ws))) ≡ length (flatten (take j (patternsOf ws))) + length (getD (patternsOf ws) j [])
+  pub offset-next : (j : ℕ) → j < length (patternsOf ws)
+      → length (flatten (take (suc j) (patternsOf ws))) ≡ length (flatten (take j (patternsOf ws))) + length (getD (patternsOf ws) j [])
   offset-next j h = length-flatten-suc (patternsOf ws) j h
-
-  -- a pattern's start, and the end of the last one, is in the array or just behind it
-  pub start-fits : (j : ℕ) → 3 + length (patternsOf ws) + length (flatten (take j (patternsOf ws))) ≤ length ws
-  start-fits j = omega (arith, set-fits, offset-le j)
 
   -- the next pattern starts where pattern j ends
   pub next-start : (j a e : ℕ) → j < length (patternsOf ws)
@@ -98,7 +67,8 @@ module _ (ws : List ℕ) (good : Good ws) where
   next-start j a e h p q = omega (arith, p, offset-next j h, rw add-one at q)
 
   -- pattern j lies in the array
-  pub pattern-fits : (j : ℕ) → j < length (patternsOf ws) → 3 + length (patternsOf ws) + length (flatten (take j (patternsOf ws))) + length (getD (patternsOf ws) j []) ≤ length ws
+  pub pattern-fits : (j : ℕ) → j < length (patternsOf ws)
+      → 3 + length (patternsOf ws) + length (flatten (take j (patternsOf ws))) + length (getD (patternsOf ws) j []) ≤ length ws
   pattern-fits j h = omega (arith, set-fits, offset-next j h, offset-le (suc j))
 
   -- ---- the words
@@ -117,7 +87,9 @@ module _ (ws : List ℕ) (good : Good ws) where
   patternIn-is j h =
       sym (getD-tabulate (getD ws 0 0) (patternIn ws) [] j (rw word-count h)) ∙ ap (λ (l : PatternSet). getD l j []) patternsIn-is
 
-  pub pattern-part : (j : ℕ) → j < length (patternsOf ws) → take (length (getD (patternsOf ws) j [])) (drop (3 + length (patternsOf ws) + length (flatten (take j (patternsOf ws)))) ws) ≡ getD (patternsOf ws) j []
+  pub pattern-part : (j : ℕ) → j < length (patternsOf ws)
+      → take (length (getD (patternsOf ws) j [])) (drop (3 + length (patternsOf ws) + length (flatten (take j (patternsOf ws)))) ws) ≡ getD
+      (patternsOf ws) j []
   unfolding patternIn
   pattern-part j h =
       let p = length (getD (patternsOf ws) j []) in
@@ -146,7 +118,9 @@ module _ (ws : List ℕ) (good : Good ws) where
   -- ---- the patterns
 
   pub good-pattern : (j : ℕ) → j < length (patternsOf ws) → T (goodPattern (getD (patternsOf ws) j []))
-  good-pattern j h = all-mem goodPattern (patternsOf ws) (goodSet-parts (patternsOf ws) good-set .2) (getD (patternsOf ws) j []) (getD-mem (patternsOf ws) j [] h)
+  good-pattern j h =
+      let ps = patternsOf ws in
+      all-mem goodPattern ps (goodSet-parts ps (set-good ws good) .2) (getD ps j []) (getD-mem ps j [] h)
 
   pub pattern-ge : (j : ℕ) → j < length (patternsOf ws) → 1 ≤ length (getD (patternsOf ws) j [])
   pattern-ge j h = goodPattern-parts (getD (patternsOf ws) j []) (good-pattern j h) .0
@@ -156,13 +130,3 @@ module _ (ws : List ℕ) (good : Good ws) where
 
   pub pattern-realizable : (j : ℕ) → j < length (patternsOf ws) → T (realizable (getD (patternsOf ws) j []))
   pattern-realizable j h = goodPattern-parts (getD (patternsOf ws) j []) (good-pattern j h) .2
-
-  pub distance-le-place : (j i : ℕ) → j < length (patternsOf ws) → getD (getD (patternsOf ws) j []) i 0 ≤ i
-  distance-le-place j i h = realizable-le-place (getD (patternsOf ws) j []) (pattern-realizable j h) i
-
-  pub distance-lt : (j i : ℕ) → j < length (patternsOf ws) → getD (getD (patternsOf ws) j []) i 0 < 256
-  distance-lt j i h = go (decLt i (length (getD (patternsOf ws) j [])))
-    where
-      go : Dec (i < length (getD (patternsOf ws) j [])) → getD (getD (patternsOf ws) j []) i 0 < 256
-      go (yes l) = omega (arith, pattern-le j h, distance-le-place j i h)
-      go (no f) = let e : getD (getD (patternsOf ws) j []) i 0 ≡ 0 = List·getD-eq-default (getD (patternsOf ws) j []) 0 {n = i} (omega arith) in omega arith

@@ -1,36 +1,29 @@
 // The patterns of a set array that is known to be good, read where they lie. Document 01: Set.
-ghost use mathlib.Core.Path.{_≡_};
-ghost use mathlib.Core.List.{[], flatten};
-ghost use Prim.Native.Nat.{_+_, _≤_, _<_};
-ghost use lib.ListN.{length, getD, take};
-ghost use Rattle.set_access.specs.Patterns.{patternsOf, Good};
-
-fn wide(x: u32) -> usize
-    ensures { λ r. ⌜ r ≡ x ⌝ }
-{
-    x as usize
-}
+ghost use Rattle.lists.specs.Prelude.{_≡_, [], flatten, _+_, _≤_, _<_, length, getD, take};
+ghost use Rattle.pattern_set.specs.PatternSet.{patternsOf, IsSet};
 
 // The number of patterns.
 pub fn pattern_count(set: &[u32]) -> usize
-    requires { ⌜ Good (now set) ⌝ }
+    requires { ⌜ IsSet (now set) ⌝ }
     ensures { λ r. ⌜ r ≡ length (patternsOf (now (set .entry))) ⌝ }
 {
-    wide(set[0])
+    casts::wide(set[0])
 }
 
-// The number of distances of the patterns before pattern j: the word in which the set tells it. For j the number of patterns, of all of them.
+// The number of distances of the patterns before pattern j: the word in which the set tells it. For
+// j the number of patterns, of all of them.
 fn offset_at(set: &[u32], j: usize) -> usize
-    requires { ⌜ Good (now set) ⌝ }
+    requires { ⌜ IsSet (now set) ⌝ }
     requires { ⌜ j ≤ length (patternsOf (now set)) ⌝ }
     ensures { λ r. ⌜ r ≡ length (flatten (take j (patternsOf (now (set .entry))))) ⌝ }
 {
-    wide(set[2 + j])
+    casts::wide(set[2 + j])
 }
 
-// The word at which pattern j begins; for j the number of patterns, the one behind the last pattern.
+// The word at which pattern j begins; for j the number of patterns, the one behind the last
+// pattern.
 pub fn pattern_start(set: &[u32], j: usize) -> usize
-    requires { ⌜ Good (now set) ⌝ }
+    requires { ⌜ IsSet (now set) ⌝ }
     requires { ⌜ j ≤ length (patternsOf (now set)) ⌝ }
     ensures { λ r. ⌜ r ≡ 3 + length (patternsOf (now (set .entry))) + length (flatten (take j (patternsOf (now (set .entry))))) ⌝ }
 {
@@ -41,7 +34,7 @@ pub fn pattern_start(set: &[u32], j: usize) -> usize
 
 // The number of distances of pattern j.
 pub fn pattern_length(set: &[u32], j: usize) -> usize
-    requires { ⌜ Good (now set) ⌝ }
+    requires { ⌜ IsSet (now set) ⌝ }
     requires { ⌜ j < length (patternsOf (now set)) ⌝ }
     ensures { λ r. ⌜ r ≡ length (getD (patternsOf (now (set .entry))) j []) ⌝ }
 {
@@ -52,7 +45,7 @@ pub fn pattern_length(set: &[u32], j: usize) -> usize
 
 // The distance at place i of pattern j.
 pub fn distance_at(set: &[u32], j: usize, i: usize) -> u32
-    requires { ⌜ Good (now set) ⌝ }
+    requires { ⌜ IsSet (now set) ⌝ }
     requires { ⌜ (j < length (patternsOf (now set))) × (i < length (getD (patternsOf (now set)) j [])) ⌝ }
     ensures { λ r. ⌜ r ≡ getD (getD (patternsOf (now (set .entry))) j []) i 0 ⌝ }
 {

@@ -1,14 +1,11 @@
--- Adding in place: the words of a set, moved up by one word from the first distance on, with the new offset, the new counts and the new distances, are the words of the set with one pattern more; what lies behind them is as it was.
-use mathlib.Core.Path.{_≡_, refl, sym, _∙_, ap, ap₂}
-use mathlib.Core.List.{List, [], _∷_, _++_, flatten, append-assoc, append-nil}
-use Prim.Native.Nat.{ℕ, _+_, _-_, _≤_}
-use native.Mathlib.Omega.{arith}
-use lib.ListN.{length, getD, take, drop, set, length-append}
-use lib.Seq.{take-suc, take-at, drop-at, take-append-add, drop-append-add, drop-drop, set-at, append-snoc}
-use Rattle.lists.proofs.Members.{flatten-append}
+-- Adding in place: the words of a set, moved up by one word from the first distance on, with the
+-- new offset, the new counts and the new distances, are the words of the set with one pattern more;
+-- what lies behind them is as it was.
+use Rattle.lists.proofs.Prelude.{_≡_, _∙_, ap, sym, refl, ap₂, List, [], _∷_, _++_, append-assoc, flatten, ℕ, _+_, _≤_, length, getD, take, drop, set}
+use Rattle.lists.proofs.Prelude.{length-append, take-suc, append-snoc, take-at, drop-drop, set-at, drop-at, drop-append-add, take-append-add, arith}
+use Rattle.lists.proofs.Rows.{flatten-snoc}
 use Rattle.pattern_set.specs.PatternSet.{PatternSet, offsets, setWords}
 use Rattle.pattern_set.proofs.Words.{length-offsets, length-setWords}
-use Rattle.set_arrays.proofs.More.{flatten-snoc}
 use Rattle.set_arrays.specs.Moved.{movedUp, withRoom, appended}
 
 offsets-snoc : (o : ℕ) (ps : PatternSet) (p : List ℕ) → offsets o (ps ++ (p ∷ [])) ≡ offsets o ps ++ ((o + length (flatten ps) + length p) ∷ [])

@@ -1,28 +1,24 @@
--- THE LAW OF THE RULES: an array begins with a good set's words exactly if its words follow the rules. One way, the lists between the offsets, put end to end, are the array's distances, and their lengths add up to the offsets; the other way, the offsets of a good set are the lengths of its first patterns.
-use mathlib.Core.Path.{_≡_, refl, sym, _∙_, ap, ap₂, subst}
-use mathlib.Core.Bool.{true, false, _&&_}
-use mathlib.Core.List.{List, [], _∷_, _++_, flatten, append-assoc, append-nil}
-use mathlib.Core.Option.{Option, none, some}
-use Prim.Native.Nat.{ℕ, zero, suc, _+_, _-_, _≤_, _<_}
-use native.Mathlib.Omega.{arith}
-use native.Mathlib.Numerals.{add-one}
-use lib.Dec.{T, leb, le→leb}
-use lib.ListN.{length, getD, take, drop, length-append, length-drop, take-append-drop}
-use lib.Seq.{take-add, drop-drop, length-take-le, getD-take, getD-drop, ext-getD, take-length}
-use Rattle.lists.specs.Prelude.{tabulate, all}
-use Rattle.lists.proofs.Lists.{and-join, begins-iff, length-tabulate, take-tabulate}
-use Rattle.lists.proofs.Members.{flatten-tabulate, length-flatten-suc}
+-- THE LAW OF THE RULES: an array begins with a good set's words exactly if its words follow the
+-- rules. One way, the lists between the offsets, put end to end, are the array's distances, and
+-- their lengths add up to the offsets; the other way, the offsets of a good set are the lengths of
+-- its first patterns.
+use Rattle.lists.proofs.Prelude.{_≡_, _∙_, ap, sym, refl, subst, ap₂, Bool, true, false, _&&_, List, [], _∷_, _++_, append-nil, append-assoc, flatten, ℕ, zero}
+use Rattle.lists.proofs.Prelude.{suc, _+_, _-_, _≤_, _<_, T, leb, le→leb, length, getD, take, drop, length-append, length-drop, take-append-drop}
+use Rattle.lists.proofs.Prelude.{length-take-le, getD-take, getD-drop, drop-drop, ext-getD, take-add, take-length, add-one, arith, tabulate, all, begins}
+use Rattle.lists.proofs.Tests.{and-join}
+use Rattle.lists.proofs.Same.{begins-iff}
+use Rattle.lists.proofs.Tables.{length-tabulate, take-tabulate}
+use Rattle.lists.proofs.Members.{all-getD, mem-all, mem-table}
+use Rattle.lists.proofs.Rows.{flatten-tabulate, length-flatten-suc, flatten-nil, flatten-none}
 use Rattle.realization.specs.Realization.{realizable}
-use Rattle.pattern_set.specs.PatternSet.{PatternSet, offsets, setWords, goodPattern, goodSet, patternIn, patternsIn, readSet}
+use Rattle.pattern_set.specs.PatternSet.{PatternSet, offsets, setWords, goodPattern, goodSet, patternIn, patternsIn, isSet, patternsOf}
 use Rattle.pattern_set.proofs.Words.{length-offsets, length-setWords, getD-offsets, words-count, words-offset, patternIn-words}
-use Rattle.pattern_set.proofs.ReadSet.{readSet-iff}
-use Rattle.set_arrays.specs.Rules.{isSet}
-use Rattle.set_arrays.proofs.More.{all-tabulate, all-getD, flatten-nil, flatten-none}
+use Rattle.pattern_set.proofs.IsSet.{begins-set, set-good, set-begins}
 use Rattle.pattern_set.proofs.Good.{goodPattern-parts, goodSet-parts}
 
 -- from each of the first k offsets to the next it is 1 to 256
-abbrev pub Rising : List ℕ → ℕ → Type 0
-Rising ws k = (j : ℕ) → j < k → (getD ws (2 + j) 0 < getD ws (3 + j) 0) × (getD ws (3 + j) 0 ≤ getD ws (2 + j) 0 + 256)
+abbrev pub OffsetsRise : List ℕ → ℕ → Type 0
+OffsetsRise ws k = (j : ℕ) → j < k → (getD ws (2 + j) 0 < getD ws (3 + j) 0) × (getD ws (3 + j) 0 ≤ getD ws (2 + j) 0 + 256)
 
 -- the rules, as facts about an array's words
 pub record Follows (ws : List ℕ) : Type 0 where
@@ -30,12 +26,12 @@ pub record Follows (ws : List ℕ) : Type 0 where
   pub short : getD ws 1 0 ≤ 4096
   pub room : 3 + getD ws 0 0 + getD ws 1 0 ≤ length ws
   pub first : getD ws 2 0 ≡ 0
-  pub rise : Rising ws (getD ws 0 0)
+  pub rise : OffsetsRise ws (getD ws 0 0)
   pub last : getD ws (2 + getD ws 0 0) 0 ≡ getD ws 1 0
   pub lists : (j : ℕ) → j < getD ws 0 0 → T (realizable (patternIn ws j))
 
 -- then none is above the last one
-pub offset-le : (ws : List ℕ) (k : ℕ) → Rising ws k → (i j : ℕ) → i + j ≡ k → getD ws (2 + i) 0 ≤ getD ws (2 + k) 0
+pub offset-le : (ws : List ℕ) (k : ℕ) → OffsetsRise ws k → (i j : ℕ) → i + j ≡ k → getD ws (2 + i) 0 ≤ getD ws (2 + k) 0
 offset-le ws k rise i zero e = let q : i ≡ k = omega arith in rw q (omega arith)
 offset-le ws k rise i (suc j) e =
     let ih : getD ws (2 + suc i) 0 ≤ getD ws (2 + k) 0 = offset-le ws k rise (suc i) j (omega arith) in
@@ -51,12 +47,14 @@ first-two (a ∷ b ∷ ws) h = refl
 goodPattern-is : (p : List ℕ) → 1 ≤ length p → length p ≤ 256 → T (realizable p) → T (goodPattern p)
 unfolding goodPattern
 goodPattern-is p a b r =
-    and-join (leb 1 (length p) && leb (length p) 256) (realizable p) (and-join (leb 1 (length p)) (leb (length p) 256) (le→leb 1 (length p) a) (le→leb (length p) 256 b)) r
+    and-join (leb 1 (length p) && leb (length p) 256) (realizable p)
+    (and-join (leb 1 (length p)) (leb (length p) 256) (le→leb 1 (length p) a) (le→leb (length p) 256 b)) r
 
 goodSet-is : (ps : PatternSet) → length ps ≤ 64 → length (flatten ps) ≤ 4096 → T (all goodPattern ps) → T (goodSet ps)
 unfolding goodSet
 goodSet-is ps a b r =
-    and-join (leb (length ps) 64 && leb (length (flatten ps)) 4096) (all goodPattern ps) (and-join (leb (length ps) 64) (leb (length (flatten ps)) 4096) (le→leb (length ps) 64 a) (le→leb (length (flatten ps)) 4096 b)) r
+    and-join (leb (length ps) 64 && leb (length (flatten ps)) 4096) (all goodPattern ps)
+    (and-join (leb (length ps) 64) (leb (length (flatten ps)) 4096) (le→leb (length ps) 64 a) (le→leb (length (flatten ps)) 4096 b)) r
 
 setWords-is : (ps : PatternSet) → setWords ps ≡ length ps ∷ length (flatten ps) ∷ (offsets 0 ps ++ flatten ps)
 unfolding setWords
@@ -126,12 +124,16 @@ module _ (ws : List ℕ) (f : Follows ws) where
       ∙ length-first i q
       ∙ sym (getD-take (k + 1) (drop 2 ws) i 0 (omega arith) ∙ getD-drop 2 ws i 0))
 
+  good-at : (j : ℕ) → j < getD ws 0 0 → T (goodPattern (patternIn ws j))
+  good-at j h =
+      let r = f .rise j h in
+      goodPattern-is (patternIn ws j) (omega (arith, length-pattern j h, r .0)) (omega (arith, length-pattern j h, r .1)) (f .lists j h)
+
   good : T (goodSet (patternsIn ws))
   good =
       goodSet-is (patternsIn ws) (omega (arith, length-patterns, f .few)) (omega (arith, length-distances, f .short))
-      (all-tabulate goodPattern (patternIn ws) (getD ws 0 0)
-      (λ j h. let r = f .rise j h in
-      goodPattern-is (patternIn ws j) (omega (arith, length-pattern j h, r .0)) (omega (arith, length-pattern j h, r .1)) (f .lists j h)))
+      (mem-all goodPattern (patternsIn ws)
+      (λ p m. let r = mem-table (getD ws 0 0) (patternIn ws) [] p m in subst (λ (z : List ℕ). T (goodPattern z)) (sym (r .2)) (good-at (r .0) (r .1))))
 
   words-are : ws ≡ setWords (patternsIn ws) ++ drop (3 + getD ws 0 0 + getD ws 1 0) ws
   words-are =
@@ -140,18 +142,20 @@ module _ (ws : List ℕ) (f : Follows ws) where
       let rest = drop (3 + k + n) ws in
       let q : 2 + (k + 1) ≡ 3 + k = omega arith in
       let d : drop 2 ws ≡ take (k + 1) (drop 2 ws) ++ behind =
-      sym (take-append-drop (k + 1) (drop 2 ws)) ∙ ap (λ (l : List ℕ). take (k + 1) (drop 2 ws) ++ l) (drop-drop (k + 1) 2 ws ∙ ap (λ (a : ℕ). drop a ws) q) in
+      sym (take-append-drop (k + 1) (drop 2 ws))
+      ∙ ap (λ (l : List ℕ). take (k + 1) (drop 2 ws) ++ l) (drop-drop (k + 1) 2 ws ∙ ap (λ (a : ℕ). drop a ws) q) in
       let b : behind ≡ take n behind ++ rest =
       sym (take-append-drop n behind) ∙ ap (λ (l : List ℕ). take n behind ++ l) (drop-drop n (3 + k) ws) in
       let fl : flatten (patternsIn ws) ≡ take n behind = flatten-first k (omega arith) ∙ ap (λ (a : ℕ). take a behind) (f .last) in
       first-two ws (omega (arith, f .room))
-      ∙ ap (λ (l : List ℕ). k ∷ n ∷ l) (d ∙ ap (λ (l : List ℕ). take (k + 1) (drop 2 ws) ++ l) b ∙ sym (append-assoc (take (k + 1) (drop 2 ws)) (take n behind) rest))
+      ∙ ap (λ (l : List ℕ). k ∷ n ∷ l)
+      (d ∙ ap (λ (l : List ℕ). take (k + 1) (drop 2 ws) ++ l) b ∙ sym (append-assoc (take (k + 1) (drop 2 ws)) (take n behind) rest))
       ∙ ap₂ (λ (os fs : List ℕ). k ∷ n ∷ ((os ++ fs) ++ rest)) (sym offsets-are) (sym fl)
       ∙ ap₂ (λ (x y : ℕ). x ∷ y ∷ ((offsets 0 (patternsIn ws) ++ flatten (patternsIn ws)) ++ rest)) (sym length-patterns) (sym length-distances)
       ∙ ap (λ (l : List ℕ). l ++ rest) (sym (setWords-is (patternsIn ws)))
 
-  pub follows-reads : readSet ws ≡ some (patternsIn ws)
-  follows-reads = readSet-iff ws (patternsIn ws) .1 (good, begins-iff ws (setWords (patternsIn ws)) .1 (drop (3 + getD ws 0 0 + getD ws 1 0) ws, words-are))
+  follows-begins : T (begins ws (setWords (patternsIn ws)))
+  follows-begins = begins-iff ws (setWords (patternsIn ws)) .1 (drop (3 + getD ws 0 0 + getD ws 1 0) ws, words-are)
 
 -- ---- the other way
 
@@ -166,7 +170,7 @@ module _ (ps : PatternSet) (rest : List ℕ) (g : T (goodSet ps)) where
   one-good : (j : ℕ) → j < length ps → (1 ≤ length (getD ps j [])) × (length (getD ps j []) ≤ 256) × T (realizable (getD ps j []))
   one-good j h = goodPattern-parts (getD ps j []) (all-getD goodPattern ps [] j (goodSet-parts ps g .2) h)
 
-  words-rise : Rising words (length ps)
+  words-rise : OffsetsRise words (length ps)
   words-rise j h =
       let a = words-offset ps rest j (omega arith) in
       let q : 2 + suc j ≡ 3 + j = omega arith in
@@ -186,38 +190,27 @@ module _ (ps : PatternSet) (rest : List ℕ) (g : T (goodSet ps)) where
         room = rw (length-append, length-setWords, k, n) (omega arith);
         first = words-offset ps rest 0 (omega arith) ∙ ap length flatten-nil;
         rise = λ j h. words-rise j (omega (arith, k));
-        last = ap (λ (a : ℕ). getD words (2 + a) 0) k ∙ words-offset ps rest (length ps) (omega arith) ∙ ap (λ (z : PatternSet). length (flatten z)) (take-length ps) ∙ sym n;
+        last =
+            ap (λ (a : ℕ). getD words (2 + a) 0) k
+            ∙ words-offset ps rest (length ps) (omega arith)
+            ∙ ap (λ (z : PatternSet). length (flatten z)) (take-length ps)
+            ∙ sym n;
         lists = λ j h. rw (patternIn-words ps rest j (omega (arith, k))) (one-good j (omega (arith, k)) .2);
       }
 
-pub reads-follows : (ws : List ℕ) (ps : PatternSet) → readSet ws ≡ some ps → Follows ws
-reads-follows ws ps e =
-    let p = readSet-iff ws ps .0 e in
-    let r = begins-iff ws (setWords ps) .0 (p .1) in
-    subst (λ (z : List ℕ). Follows z) (sym (r .1)) (words-follow ps (r .0) (p .0))
-
--- an array is a set where its words follow the rules, and no set where they cannot
+-- an array is a set array where its words follow the rules, and none where they cannot
 pub is-set : (ws : List ℕ) → Follows ws → true ≡ isSet ws
-is-set ws f = rw (follows-reads ws f) refl
-
-pub no-set : (ws : List ℕ) → (Follows ws → ⊥) → false ≡ isSet ws
-no-set ws f = go (readSet ws) refl
-  where
-    go : (o : Option PatternSet) → readSet ws ≡ o → false ≡ isSet ws
-    go none e = rw e refl
-    go (some ps) e = absurd (f (reads-follows ws ps e))
+is-set ws f = sym (begins-set ws (patternsIn ws) (good ws f) (follows-begins ws f) .0)
 
 -- and back
 pub set-follows : (ws : List ℕ) → isSet ws ≡ true → Follows ws
-set-follows ws t = go (readSet ws) refl
-  where
-    go : (o : Option PatternSet) → readSet ws ≡ o → Follows ws
-    go none e = absurd (let s : isSet ws ≡ false = rw e refl in let z : _≡_ {A = ℕ} 0 1 = cc in let u : ⊥ = omega arith in u)
-    go (some ps) e = reads-follows ws ps e
+set-follows ws t =
+    let r = begins-iff ws (setWords (patternsOf ws)) .0 (set-begins ws t) in
+    subst (λ (z : List ℕ). Follows z) (sym (r .1)) (words-follow (patternsOf ws) (r .0) (set-good ws t))
 
-pub set-broken : (ws : List ℕ) → isSet ws ≡ false → readSet ws ≡ none
-set-broken ws t = go (readSet ws) refl
+pub no-set : (ws : List ℕ) → (Follows ws → ⊥) → false ≡ isSet ws
+no-set ws f = go (isSet ws) refl
   where
-    go : (o : Option PatternSet) → readSet ws ≡ o → readSet ws ≡ none
-    go none e = e
-    go (some ps) e = absurd (let s : isSet ws ≡ true = rw e refl in let z : _≡_ {A = ℕ} 0 1 = cc in let u : ⊥ = omega arith in u)
+    go : (b : Bool) → isSet ws ≡ b → false ≡ isSet ws
+    go false e = sym e
+    go true e = absurd (f (set-follows ws e))

@@ -1,8 +1,8 @@
-// The entries on sets of patterns that lie in lent arrays: write the empty set, check an array, add a pattern.
-ghost use mathlib.Core.Path.{_≡_};
+// The entries on sets of patterns that lie in lent arrays: write the empty set, check an array, add
+// a pattern.
+ghost use Rattle.lists.specs.Prelude.{_≡_};
 ghost use Rattle.answers.specs.Told.{toldWritten, toldSize};
-ghost use Rattle.model.specs.Refusals.{told, after};
-ghost use Rattle.model.specs.Entries.{emptySetEntry, checkEntry, addEntry};
+ghost use Rattle.entries.specs.Entries.{told, after, emptySetEntry, checkEntry, addEntry};
 use answers::Refusal;
 use answers::SetSize;
 use answers::Written;
@@ -31,10 +31,11 @@ pub fn check_set(words: &[u32]) -> SetSize
     if !rules::is_set(words) {
         return SetSize::Refused(Refusal::BrokenSet);
     }
-    SetSize::Holds(rules::wide(words[0]), rules::wide(words[1]))
+    SetSize::Holds(casts::wide(words[0]), casts::wide(words[1]))
 }
 
-// Adds a pattern, given as values, to the set with whose words the array begins: it becomes the last one.
+// Adds a pattern, given as values, to the set with whose words the array begins: it becomes the
+// last one.
 pub fn add_pattern(words: &mut [u32], values: &[i32]) -> SetSize
     ensures { λ r. ⌜ toldSize r ≡ told (0, 0) (addEntry (now (words .entry)) (now (values .entry))) ⌝ }
     ensures { λ _. ⌜ now (words .exit) ≡ after (addEntry (now (words .entry)) (now (values .entry))) (now (words .entry)) ⌝ }
@@ -49,8 +50,8 @@ pub fn add_pattern(words: &mut [u32], values: &[i32]) -> SetSize
     if !rules::is_set(words) {
         return SetSize::Refused(Refusal::BrokenSet);
     }
-    let k = rules::wide(words[0]);
-    let n = rules::wide(words[1]);
+    let k = casts::wide(words[0]);
+    let n = casts::wide(words[1]);
     if k >= 64 {
         return SetSize::Refused(Refusal::SetFull);
     }

@@ -1,7 +1,5 @@
 // A new pattern behind the ones that a set has.
-ghost use mathlib.Core.Path.{_≡_};
-ghost use Prim.Native.Nat.{_+_, _≤_, _<_};
-ghost use lib.ListN.{length};
+ghost use Rattle.lists.specs.Prelude.{_≡_, _+_, _≤_, _<_, length};
 ghost use Rattle.cartesian.specs.Cartesian.{distances};
 ghost use Rattle.set_arrays.specs.Moved.{movedUp, withRoom, appended};
 
@@ -18,7 +16,8 @@ fn move_up(words: &mut [u32], at: usize, n: usize)
     }
 }
 
-// Counts one pattern and m distances more in a set of k patterns and n distances, and puts the new offset behind the others.
+// Counts one pattern and m distances more in a set of k patterns and n distances, and puts the new
+// offset behind the others.
 fn make_room(words: &mut [u32], k: usize, n: usize, m: usize)
     requires { ⌜ (k < 64) × (n + m ≤ 4096) × (4 + k + n + m ≤ length (now words)) ⌝ }
     ensures { λ _. ⌜ now (words .exit) ≡ withRoom k n m (now (words .entry)) ⌝ }

@@ -1,15 +1,7 @@
 // The set rules, tested on an array's words whatever they are.
-ghost use mathlib.Core.Path.{_≡_};
-ghost use mathlib.Core.Bool.{true};
-ghost use Prim.Native.Nat.{_+_, _≤_};
-ghost use lib.ListN.{length, getD};
-ghost use Rattle.set_arrays.specs.Rules.{isSet, sizesFit, rises, offsetsRise, listsRealizable};
-
-pub(crate) fn wide(x: u32) -> usize
-    ensures { λ r. ⌜ r ≡ x ⌝ }
-{
-    x as usize
-}
+ghost use Rattle.lists.specs.Prelude.{_≡_, true, _+_, _≤_, length, getD};
+ghost use Rattle.pattern_set.specs.PatternSet.{isSet};
+ghost use Rattle.set_arrays.specs.Rules.{sizesFit, isNextOffset, offsetsRise, listsRealizable};
 
 // Is neither count above its limit, and the array long enough for both.
 fn sizes_fit(words: &[u32]) -> bool
@@ -18,11 +10,11 @@ fn sizes_fit(words: &[u32]) -> bool
     if words.len() < 3 {
         return false;
     }
-    let k = wide(words[0]);
+    let k = casts::wide(words[0]);
     if k > 64 {
         return false;
     }
-    let n = wide(words[1]);
+    let n = casts::wide(words[1]);
     if n > 4096 {
         return false;
     }
@@ -30,13 +22,13 @@ fn sizes_fit(words: &[u32]) -> bool
 }
 
 // Is an offset 1 to 256 above the one before.
-fn rises(before: u32, next: u32) -> bool
-    ensures { λ r. ⌜ r ≡ rises before next ⌝ }
+fn is_next_offset(before: u32, next: u32) -> bool
+    ensures { λ r. ⌜ r ≡ isNextOffset before next ⌝ }
 {
     if next <= before {
         return false;
     }
-    wide(next) <= wide(before) + 256
+    casts::wide(next) <= casts::wide(before) + 256
 }
 
 // Is it so from each of the first k offsets to the next.
@@ -46,7 +38,7 @@ fn offsets_rise(words: &[u32], k: usize) -> bool
 {
     let mut j = 0;
     while j < k {
-        if !rises(words[2 + j], words[3 + j]) {
+        if !is_next_offset(words[2 + j], words[3 + j]) {
             return false;
         }
         j += 1;
@@ -62,8 +54,8 @@ fn lists_realizable(words: &[u32], k: usize) -> bool
 {
     let mut j = 0;
     while j < k {
-        let start = 3 + k + wide(words[2 + j]);
-        let end = 3 + k + wide(words[3 + j]);
+        let start = 3 + k + casts::wide(words[2 + j]);
+        let end = 3 + k + casts::wide(words[3 + j]);
         if !compute_realization::is_realizable(&words[start..end]) {
             return false;
         }
@@ -79,7 +71,7 @@ pub fn is_set(words: &[u32]) -> bool
     if !sizes_fit(words) {
         return false;
     }
-    let k = wide(words[0]);
+    let k = casts::wide(words[0]);
     if words[2] != 0 {
         return false;
     }

@@ -1,32 +1,27 @@
--- THE CALL, value by value: what is done so far and then the call from the present state are the whole call. A step adds its hits, its attempts and its
--- value; where no value is left or too few words are free, nothing is left to do.
-use mathlib.Core.Path.{_≡_, refl, sym, _∙_, ap, ap₂, subst}
-use mathlib.Core.Bool.{true, cond}
-use mathlib.Core.List.{List, [], _∷_, _++_, append-nil, append-assoc}
-use Prim.Native.Nat.{ℕ, suc, _+_, _*_, _-_, _/_, _%_, _≤_, _<_}
-use native.Mathlib.Omega.{arith}
-use borrow.Author.Tests.{le-leb, lt-leb, lt-ltb, le-ltb}
-use lib.Dec.{T, leb}
-use lib.IntN.{ℤ, pos}
-use lib.ListN.{length, getD, take, drop, length-drop, length-map, length-append, drop-of-length-le}
-use lib.Seq.{drop-cons}
+-- THE CALL, value by value: what is done so far and then the call from the present state are the
+-- whole call. A step adds its hits, its attempts and its value; where no value is left or too few
+-- words are free, nothing is left to do.
+use Rattle.lists.proofs.Prelude.{_≡_, _∙_, ap, sym, refl, subst, ap₂, true, cond, List, [], _∷_, _++_, append-nil, append-assoc, ℕ, suc, _+_, _-_, _*_, _/_}
+use Rattle.lists.proofs.Prelude.{_%_, _≤_, _<_, ℤ, pos, T, leb, length, getD, take, drop, length-append, length-drop, drop-of-length-le, length-map, drop-cons}
+use Rattle.lists.proofs.Prelude.{arith, le-leb, lt-leb, lt-ltb, le-ltb}
+use Rattle.lists.proofs.Parts.{paste}
 use Rattle.answers.specs.declared.SearchState.{SearchState}
-use Rattle.answers.specs.declared.Counts.{Counts}
 use Rattle.pattern_set.specs.PatternSet.{PatternSet, goodSet}
 use Rattle.matching.specs.Matching.{hitWords}
-use Rattle.model.specs.Automaton.{nodes, headOf, nodeOf}
-use Rattle.model.specs.Search.{goodMinima, distanceOf, pushed, Called, stop, andThen, feed, advance, listed, step, call}
+use Rattle.automaton_model.specs.Automaton.{nodes, headOf, nodeOf, advance, listed}
+use Rattle.search_model.specs.Search.{ringOf, stateOf, stop, andThen, Called, feed, step, call}
+use Rattle.search_model.specs.Ring.{goodRing, distanceOf}
 use Rattle.open_minima.specs.declared.Pushed.{Pushed}
-use Rattle.open_minima.specs.Parts.{stateOf, minimaIn, IsPushed}
-use Rattle.open_minima.proofs.Laws.{minima-counted, pushed-good, pushed-places, pushed-values, distance-parts, parts-pushed}
-use Rattle.stream_step.specs.Reached.{Reached}
+use Rattle.open_minima.specs.Parts.{AreCounters, IsPushed}
+use Rattle.search_model.proofs.Good.{good, good-few}
+use Rattle.search_model.proofs.Push.{pushed-good, pushed-places, pushed-values}
+use Rattle.failure_walk.specs.Reached.{Reached}
 use Rattle.stream_step.specs.PlaceWords.{placeWords}
-use Rattle.stream_step.proofs.More.{paste}
 use Rattle.stream_step.proofs.Listed.{length-listed}
-use Rattle.stream_step.proofs.Stepping.{reached-within, attempts-few}
+use Rattle.failure_walk.proofs.Walk.{reached-within, attempts-few}
+use Rattle.matching.proofs.HitWords.{length-hitWords, hitWords-append}
 use Rattle.stream_call.specs.declared.Moved.{Moved}
 use Rattle.stream_call.specs.Taken.{stateFrom, IsStepped, IsTaken}
-use Rattle.matching.proofs.HitWords.{length-hitWords, hitWords-append}
 
 -- i values taken, the hits hs and a attempts made, and then a call
 abbrev later : ℕ → List (ℕ × ℕ) → ℕ → Called SearchState → Called SearchState
@@ -43,47 +38,50 @@ pub record Taking (ps : PatternSet) (st : SearchState) (xs : List ℤ) (lent : L
   pub within : i ≤ length xs
   pub taken : here .taken ≡ st .taken + i
   pub node : here .node < length (nodes ps)
-  pub minima : goodMinima here ≡ true
+  pub ring : goodRing (here .taken) (ringOf here) ≡ true
   pub places : length (here .places) ≡ 256
   pub values : length (here .values) ≡ 256
   pub few : attempts ≤ 257 * i
 
--- a state with its open minima counted by their slots, as the call enters it
+-- a state with the counters of its ring, as the call enters it
 abbrev pub entered : SearchState → SearchState
-entered st = stateFrom (st .taken) (st .node) (minimaIn (st .taken) (st .first) ((st .first + st .minima) % 256)) (st .first) (st .places) (st .values)
+entered st = stateFrom (st .taken) (st .node) (st .first) (st .first + st .minima) (st .places) (st .values)
 
-pub entered-is : (st : SearchState) → goodMinima st ≡ true → st .first < 256 → entered st ≡ st
-entered-is st e h = λ i. stateFrom (st .taken) (st .node) (minima-counted st e h i) (st .first) (st .places) (st .values)
+pub entered-is : (st : SearchState) → st .first < 256 → entered st ≡ st
+entered-is st h =
+    let minima : st .first + st .minima - st .first ≡ st .minima = omega arith in
+    let first : st .first % 256 ≡ st .first = omega arith in
+    λ i. record { taken = st .taken; node = st .node; minima = minima i; first = first i; places = st .places; values = st .values }
 
--- and as it leaves it
-pub taken-counted : (ps : PatternSet) (st : SearchState) (xs : List ℤ) (before after : List ℕ) (taken node minima m first : ℕ) (places : List ℕ) (values : List ℤ) (counts : Counts) → goodMinima st ≡ true → st .first < 256 → minima ≡ m
-    → IsTaken ps (entered st) xs before after (record { state = stateFrom taken node m first places values; counts = counts })
-    → IsTaken ps st xs before after (record { state = stateFrom taken node minima first places values; counts = counts })
-taken-counted ps st xs before after taken node minima m first places values counts e h q t =
-    subst (λ (k : ℕ). IsTaken ps st xs before after (record { state = stateFrom taken node k first places values; counts = counts })) (sym q)
-    (subst (λ (s : SearchState). IsTaken ps s xs before after (record { state = stateFrom taken node m first places values; counts = counts })) (entered-is st e h) t)
+-- its counters
+pub entered-counters : (st : SearchState) → goodRing (st .taken) (ringOf st) ≡ true → st .first < 256
+    → AreCounters (st .taken) (st .first) (st .first + st .minima)
+entered-counters st e h =
+    record { ordered = omega arith; small = omega (arith, good-few (st .taken) (ringOf st) (good (st .taken) (ringOf st) e)) }
 
 module _ (ps : PatternSet) (g : T (goodSet ps)) (z : 0 < length ps) where
   -- ---- one step
 
   -- the parts of a step make it
   pub stepped : (st : SearchState) (x : ℤ) (places : List ℕ) (values : List ℤ) (before after : List ℕ) (p : Pushed) (node attempts n : ℕ)
-      → IsPushed (stateOf (st .taken) (st .minima) (st .first) (st .places) (st .values)) x places values p
+      → IsPushed (st .taken) (ringOf st) x places values p
       → Reached ps (st .node) (p .distance) node attempts
       → n ≡ length (listed ps (headOf ps node))
       → after ≡ placeWords (st .taken) (listed ps (headOf ps node)) ++ drop (2 * length (listed ps (headOf ps node))) before
       → IsStepped ps st x places values before after (record { first = p .first; next = p .next; node = node; attempts = attempts; hits = n })
   unfolding step
   stepped st x places values before after p node attempts n ip r en ew =
-      let d : p .distance ≡ distanceOf st x = ip .distance ∙ distance-parts st x in
+      let d : p .distance ≡ distanceOf (st .taken) (ringOf st) x = ip .distance in
       let adv : ℕ → List ℕ × ℕ = λ v. advance ps (headOf ps (st .node)) v in
       let w = reached-within ps g z (p .distance) (st .node) node attempts r in
-      let h : headOf ps node ≡ adv (distanceOf st x) .0 = w .1 ∙ ap (λ (v : ℕ). adv v .0) d in
-      let m : node ≡ nodeOf ps (adv (distanceOf st x) .0) = r .node ∙ ap (λ (v : ℕ). nodeOf ps (adv v .0)) d in
-      let l : length (listed ps (headOf ps node)) ≡ length (step ps st x .hits) = sym (length-map (listed ps (adv (distanceOf st x) .0)) (λ (j : ℕ). (st .taken, j)) ∙ ap (λ (k : List ℕ). length (listed ps k)) (sym h)) in
+      let h : headOf ps node ≡ adv (distanceOf (st .taken) (ringOf st) x) .0 = w .1 ∙ ap (λ (v : ℕ). adv v .0) d in
+      let m : node ≡ nodeOf ps (adv (distanceOf (st .taken) (ringOf st) x) .0) = r .node ∙ ap (λ (v : ℕ). nodeOf ps (adv v .0)) d in
+      let l : length (listed ps (headOf ps node)) ≡ length (step ps st x .hits) = sym
+      (length-map (listed ps (adv (distanceOf (st .taken) (ringOf st) x) .0)) (λ (j : ℕ). (st .taken, j)) ∙ ap (λ (k : List ℕ). length (listed ps k))
+      (sym h)) in
       record {
-        state = parts-pushed st x node places values p ip ∙ ap (λ (k : ℕ). pushed st x k) m;
-        ring = ip .ring;
+        state = ap₂ (stateOf (st .taken + 1)) m (ip .ring);
+        counters = ip .counters;
         attempts = r .attempts ∙ ap (λ (v : ℕ). adv v .1) d;
         hits = en ∙ l;
         words = ew ∙ ap₂ (λ (k : List ℕ) (i : ℕ). placeWords (st .taken) (listed ps k) ++ drop (2 * i) before) h l;
@@ -93,40 +91,55 @@ module _ (ps : PatternSet) (g : T (goodSet ps)) (z : 0 < length ps) where
   step-hits : (st : SearchState) (x : ℤ) → length (step ps st x .hits) ≤ length ps
   unfolding step
   step-hits st x =
-      let h = advance ps (headOf ps (st .node)) (distanceOf st x) .0 in
+      let h = advance ps (headOf ps (st .node)) (distanceOf (st .taken) (ringOf st) x) .0 in
       omega (arith, length-map {B = ℕ × ℕ} (listed ps h) (λ j. (st .taken, j)), length-listed ps g h)
 
   -- and leads to a node, by at most 257 attempts
   step-node : (st : SearchState) (x : ℤ) → st .node < length (nodes ps) → (step ps st x .state .node < length (nodes ps)) × (step ps st x .attempts ≤ 257)
-  unfolding step pushed
+  unfolding step
   step-node st x h =
-      let d = distanceOf st x in
-      let r : Reached ps (st .node) d (nodeOf ps (advance ps (headOf ps (st .node)) d .0)) (advance ps (headOf ps (st .node)) d .1) = record { node = refl; attempts = refl } in
+      let d = distanceOf (st .taken) (ringOf st) x in
+      let r : Reached ps (st .node) d (nodeOf ps (advance ps (headOf ps (st .node)) d .0)) (advance ps (headOf ps (st .node)) d .1) = record {
+        node = refl;
+        attempts = refl;
+      } in
       (reached-within ps g z d (st .node) _ _ r .0, attempts-few ps g z d (st .node) _ _ h r)
 
-  step-good : (st : SearchState) (x : ℤ) → length (st .places) ≡ 256 → length (st .values) ≡ 256 → goodMinima st ≡ true → goodMinima (step ps st x .state) ≡ true
+  step-good : (st : SearchState) (x : ℤ) → length (st .places) ≡ 256 → length (st .values) ≡ 256 → goodRing (st .taken) (ringOf st) ≡ true
+      → goodRing (st .taken + 1) (ringOf (step ps st x .state)) ≡ true
   unfolding step
-  step-good st x p v e = pushed-good st x _ p v e
+  step-good st x p v e = pushed-good (st .taken) (ringOf st) x p v e
 
   step-places : (st : SearchState) (x : ℤ) → length (step ps st x .state .places) ≡ length (st .places)
   unfolding step
-  step-places st x = pushed-places st x _
+  step-places st x = pushed-places (st .taken) (ringOf st) x
 
   step-values : (st : SearchState) (x : ℤ) → length (step ps st x .state .values) ≡ length (st .values)
   unfolding step
-  step-values st x = pushed-values st x _
-
-  step-taken : (st : SearchState) (x : ℤ) → step ps st x .state .taken ≡ st .taken + 1
-  unfolding step pushed
-  step-taken st x = refl
+  step-values st x = pushed-values (st .taken) (ringOf st) x
 
   -- ---- the call
 
-  pub taking-start : (st : SearchState) (xs : List ℤ) (lent : List ℕ) → st .node < length (nodes ps) → goodMinima st ≡ true → length (st .places) ≡ 256 → length (st .values) ≡ 256
+  pub taking-start : (st : SearchState) (xs : List ℤ) (lent : List ℕ) → st .node < length (nodes ps) → goodRing (st .taken) (ringOf st) ≡ true
+      → length (st .places) ≡ 256 → length (st .values) ≡ 256
       → Taking ps st xs lent st 0 0 0 lent
   unfolding hitWords
   taking-start st xs lent n m p v =
-      record { done = []; whole = start; counted = refl; words = refl; sized = refl; room = omega arith; within = omega arith; taken = omega arith; node = n; minima = m; places = p; values = v; few = omega arith }
+      record {
+        done = [];
+        whole = start;
+        counted = refl;
+        words = refl;
+        sized = refl;
+        room = omega arith;
+        within = omega arith;
+        taken = omega arith;
+        node = n;
+        ring = m;
+        places = p;
+        values = v;
+        few = omega arith;
+      }
     where
       minus-zero : (n : ℕ) → n ≡ n - 0
       minus-zero n = omega arith
@@ -146,11 +159,13 @@ module _ (ps : PatternSet) (g : T (goodSet ps)) (z : 0 < length ps) where
   feed-more here free x xs h = rw (le-ltb free (2 * length ps) h) refl
 
   -- one value more
-  pub taking-more : (st : SearchState) (xs : List ℤ) (lent : List ℕ) (here : SearchState) (i used attempts : ℕ) (hits : List ℕ) → Taking ps st xs lent here i used attempts hits
+  pub taking-more : (st : SearchState) (xs : List ℤ) (lent : List ℕ) (here : SearchState) (i used attempts : ℕ) (hits : List ℕ)
+      → Taking ps st xs lent here i used attempts hits
       → i < length xs → 2 * length ps ≤ length hits - used
       → (k : ℕ) (y : List ℕ) (places : List ℕ) (values : List ℤ) (r : Moved) → k ≡ length hits - used
       → IsStepped ps here (getD xs i (pos 0)) places values (take k (drop used hits)) y r
-      → Taking ps st xs lent (stateFrom (here .taken + 1) (r .node) (minimaIn (here .taken + 1) (r .first) (r .next)) (r .first) places values) (i + 1) (used + 2 * r .hits) (attempts + r .attempts) (take used hits ++ (y ++ drop k (drop used hits)))
+      → Taking ps st xs lent (stateFrom (here .taken + 1) (r .node) (r .first) (r .next) places values) (i + 1) (used + 2 * r .hits)
+      (attempts + r .attempts) (take used hits ++ (y ++ drop k (drop used hits)))
   taking-more st xs lent here i used attempts hits t l f k y places values r ek s =
       let x = getD xs i (pos 0) in
       let n = step ps here x in
@@ -163,9 +178,11 @@ module _ (ps : PatternSet) (g : T (goodSet ps)) (z : 0 < length ps) where
       let words : take used hits ++ (y ++ drop k (drop used hits)) ≡ hitWords (D ++ n .hits) ++ drop (used + 2 * r .hits) lent =
       paste (hitWords D) (hitWords (n .hits)) lent hits y used (2 * length (n .hits)) k lD (length-hitWords (n .hits)) (t .words) ek (s .words)
       ∙ ap₂ (λ (l : List ℕ) (j : ℕ). l ++ drop j lent) (sym (hitWords-append D (n .hits))) twice in
-      let lW : length (hitWords (D ++ n .hits)) ≡ used + 2 * r .hits = length-hitWords (D ++ n .hits) ∙ (omega (arith, length-append D (n .hits), t .counted, s .hits)) in
+      let lW : length (hitWords (D ++ n .hits)) ≡ used + 2 * r .hits = length-hitWords (D ++ n .hits) ∙
+      (omega (arith, length-append D (n .hits), t .counted, s .hits)) in
       let sized : length (take used hits ++ (y ++ drop k (drop used hits))) ≡ length lent =
-      ap length words ∙ length-append (hitWords (D ++ n .hits)) (drop (used + 2 * r .hits) lent) ∙ (omega (arith, length-drop (used + 2 * r .hits) lent, s .hits)) in
+      ap length words ∙ length-append (hitWords (D ++ n .hits)) (drop (used + 2 * r .hits) lent) ∙
+      (omega (arith, length-drop (used + 2 * r .hits) lent, s .hits)) in
       let rest : Called SearchState → Called SearchState = λ c. later i D attempts c in
       let next : SearchState → ℕ → Called SearchState = λ st' free'. call ps st' free' (drop (suc i) xs) in
       let minus : length lent - used - 2 * length (n .hits) ≡ length lent - (used + 2 * r .hits) = omega (arith, s .hits) in
@@ -173,12 +190,19 @@ module _ (ps : PatternSet) (g : T (goodSet ps)) (z : 0 < length ps) where
       ap (call ps here (length lent - used)) (drop-cons xs i (pos 0) l) ∙ feed-more here (length lent - used) x (drop (suc i) xs) free in
       let c = next (n .state) (length lent - used - 2 * length (n .hits)) in
       let shifted : rest (andThen n c) ≡ later (suc i) (D ++ n .hits) (attempts + n .attempts) c =
-      λ j. record { state = c .state; ended = c .ended; taken = add-suc i (c .taken) j; hits = sym (append-assoc D (n .hits) (c .hits)) j; attempts = sym (add-assoc attempts (n .attempts) (c .attempts)) j } in
-      let at : stateFrom (here .taken + 1) (r .node) (minimaIn (here .taken + 1) (r .first) (r .next)) (r .first) places values ≡ n .state = s .state in
-      let back = sym at in
+      λ j. record {
+        state = c .state;
+        ended = c .ended;
+        taken = add-suc i (c .taken) j;
+        hits = sym (append-assoc D (n .hits) (c .hits)) j;
+        attempts = sym (add-assoc attempts (n .attempts) (c .attempts)) j;
+      } in
+      let back = sym (s .state) in
       record {
         done = D ++ n .hits;
-        whole = t .whole ∙ ap rest one ∙ shifted ∙ whole' i D attempts (n .state) _ back (length lent - used - 2 * length (n .hits)) (length lent - (used + 2 * r .hits)) minus (n .hits) (n .attempts) (r .attempts) (sym (s .attempts)) xs;
+        whole =
+            t .whole ∙ ap rest one ∙ shifted ∙ whole' i D attempts (n .state) _ back (length lent - used - 2 * length (n .hits))
+            (length lent - (used + 2 * r .hits)) minus (n .hits) (n .attempts) (r .attempts) (sym (s .attempts)) xs;
         counted = omega (arith, t .counted, s .hits, length-append D (n .hits));
         words = words;
         sized = sized;
@@ -186,7 +210,7 @@ module _ (ps : PatternSet) (g : T (goodSet ps)) (z : 0 < length ps) where
         within = omega arith;
         taken = omega (arith, t .taken);
         node = subst (λ (q : SearchState). q .node < length (nodes ps)) back (on .0);
-        minima = subst (λ (q : SearchState). goodMinima q ≡ true) back (step-good here x (t .places) (t .values) (t .minima));
+        ring = subst (λ (q : SearchState). goodRing (here .taken + 1) (ringOf q) ≡ true) back (step-good here x (t .places) (t .values) (t .ring));
         places = subst (λ (q : SearchState). length (q .places) ≡ 256) back (step-places here x ∙ t .places);
         values = subst (λ (q : SearchState). length (q .values) ≡ 256) back (step-values here x ∙ t .values);
         few = omega (arith, t .few, on .1, s .attempts);
@@ -201,7 +225,8 @@ module _ (ps : PatternSet) (g : T (goodSet ps)) (z : 0 < length ps) where
       add-one : (a : ℕ) → suc a ≡ a + 1
       add-one a = omega arith
 
-      whole' : (i : ℕ) (D : List (ℕ × ℕ)) (attempts : ℕ) (s t : SearchState) → s ≡ t → (f f' : ℕ) → f ≡ f' → (hs : List (ℕ × ℕ)) (a b : ℕ) → a ≡ b → (xs : List ℤ)
+      whole' : (i : ℕ) (D : List (ℕ × ℕ)) (attempts : ℕ) (s t : SearchState) → s ≡ t → (f f' : ℕ) → f ≡ f' → (hs : List (ℕ × ℕ)) (a b : ℕ) → a ≡ b
+          → (xs : List ℤ)
           → later (suc i) (D ++ hs) (attempts + a) (call ps s f (drop (suc i) xs)) ≡ later (i + 1) (D ++ hs) (attempts + b) (call ps t f' (drop (i + 1) xs))
       whole' i D attempts s t e f f' ef hs a b ea xs =
           ap₂ (λ (q : SearchState) (v : ℕ). later (suc i) (D ++ hs) (attempts + a) (call ps q v (drop (suc i) xs))) e ef
@@ -225,7 +250,8 @@ module _ (ps : PatternSet) (g : T (goodSet ps)) (z : 0 < length ps) where
   feed-full here free xs i h f = ap (call ps here free) (drop-cons xs i (pos 0) h) ∙ (rw (lt-ltb free (2 * length ps) f) refl)
 
   -- what is done is the call where nothing is left to do
-  finish : (st : SearchState) (xs : List ℤ) (lent : List ℕ) (here : SearchState) (i used attempts : ℕ) (hits : List ℕ) (e : ℕ) → Taking ps st xs lent here i used attempts hits
+  finish : (st : SearchState) (xs : List ℤ) (lent : List ℕ) (here : SearchState) (i used attempts : ℕ) (hits : List ℕ) (e : ℕ)
+      → Taking ps st xs lent here i used attempts hits
       → call ps here (length lent - used) (drop i xs) ≡ stop here e → e ≡ cond (leb (length xs) i) 1 0
       → IsTaken ps st xs lent hits (record { state = here; counts = record { taken = i; hits = used / 2; attempts = attempts } })
   finish st xs lent here i used attempts hits e t s q =
@@ -242,12 +268,16 @@ module _ (ps : PatternSet) (g : T (goodSet ps)) (z : 0 < length ps) where
         words = t .words ∙ ap₂ (λ (hs : List (ℕ × ℕ)) (j : ℕ). hitWords hs ++ drop j lent) c (t .counted ∙ ap (λ (hs : List (ℕ × ℕ)). 2 * length hs) c);
       }
 
-  pub taking-ended : (st : SearchState) (xs : List ℤ) (lent : List ℕ) (here : SearchState) (i used attempts : ℕ) (hits : List ℕ) → Taking ps st xs lent here i used attempts hits
+  pub taking-ended : (st : SearchState) (xs : List ℤ) (lent : List ℕ) (here : SearchState) (i used attempts : ℕ) (hits : List ℕ)
+      → Taking ps st xs lent here i used attempts hits
       → length xs ≤ i → IsTaken ps st xs lent hits (record { state = here; counts = record { taken = i; hits = used / 2; attempts = attempts } })
-  taking-ended st xs lent here i used attempts hits t h = finish st xs lent here i used attempts hits 1 t (feed-ended here (length lent - used) xs i h) (rw (le-leb (length xs) i h) refl)
+  taking-ended st xs lent here i used attempts hits t h =
+      finish st xs lent here i used attempts hits 1 t (feed-ended here (length lent - used) xs i h) (rw (le-leb (length xs) i h) refl)
 
-  pub taking-full : (st : SearchState) (xs : List ℤ) (lent : List ℕ) (here : SearchState) (i used attempts : ℕ) (hits : List ℕ) → Taking ps st xs lent here i used attempts hits
-      → i < length xs → length hits - used < 2 * length ps → IsTaken ps st xs lent hits (record { state = here; counts = record { taken = i; hits = used / 2; attempts = attempts } })
+  pub taking-full : (st : SearchState) (xs : List ℤ) (lent : List ℕ) (here : SearchState) (i used attempts : ℕ) (hits : List ℕ)
+      → Taking ps st xs lent here i used attempts hits
+      → i < length xs → length hits - used < 2 * length ps
+      → IsTaken ps st xs lent hits (record { state = here; counts = record { taken = i; hits = used / 2; attempts = attempts } })
   taking-full st xs lent here i used attempts hits t h f =
       let f' : length lent - used < 2 * length ps = omega (arith, t .sized) in
       finish st xs lent here i used attempts hits 0 t (feed-full here (length lent - used) xs i h f') (rw (lt-leb (length xs) i h) refl)

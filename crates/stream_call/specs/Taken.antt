@@ -1,28 +1,22 @@
--- What a step and the values of a call leave in the arrays that a search keeps apart, and what they answer.
+-- What a step and the values of a call leave in the arrays that a search keeps apart, and what they
+-- answer.
 use Rattle.lists.specs.Prelude.{_≡_, cond, List, _++_, ℕ, _+_, _*_, leb, ℤ, length, drop}
 use Rattle.answers.specs.declared.SearchState.{SearchState}
 use Rattle.pattern_set.specs.PatternSet.{PatternSet}
 use Rattle.matching.specs.Matching.{hitWords}
-use Rattle.model.specs.Search.{step, call}
-use Rattle.open_minima.specs.Parts.{minimaIn, IsRing}
+use Rattle.search_model.specs.Search.{stateOf, step, call}
+use Rattle.open_minima.specs.Parts.{ringFrom, AreCounters}
 use Rattle.stream_call.specs.declared.Moved.{Moved}
 use Rattle.stream_call.specs.declared.Taken.{Taken}
 
--- the state that the parts make
+-- the state that the parts make, with the counters of its ring
 abbrev pub stateFrom : ℕ → ℕ → ℕ → ℕ → List ℕ → List ℤ → SearchState
-stateFrom taken node minima first places values = record {
-  taken = taken;
-  node = node;
-  minima = minima;
-  first = first;
-  places = places;
-  values = values;
-}
+stateFrom taken node first next places values = stateOf taken node (ringFrom first next places values)
 
 -- what the step of x leaves in the lent arrays, and what it answers
 pub record IsStepped (ps : PatternSet) (st : SearchState) (x : ℤ) (places : List ℕ) (values : List ℤ) (before after : List ℕ) (r : Moved) : Type 0 where
-  pub state : stateFrom (st .taken + 1) (r .node) (minimaIn (st .taken + 1) (r .first) (r .next)) (r .first) places values ≡ step ps st x .state
-  pub ring : IsRing (st .taken + 1) (r .first) (r .next)
+  pub state : stateFrom (st .taken + 1) (r .node) (r .first) (r .next) places values ≡ step ps st x .state
+  pub counters : AreCounters (st .taken + 1) (r .first) (r .next)
   pub attempts : r .attempts ≡ step ps st x .attempts
   pub hits : r .hits ≡ length (step ps st x .hits)
   pub words : after ≡ hitWords (step ps st x .hits) ++ drop (2 * length (step ps st x .hits)) before

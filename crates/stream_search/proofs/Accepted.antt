@@ -1,13 +1,11 @@
 -- ACCEPTED STATES: the check's tests, in their order, decide whether a state is good.
-use mathlib.Core.Path.{_≡_, refl}
-use mathlib.Core.Bool.{Bool, true, false}
-use Prim.Native.Nat.{ℕ, _≤_, _<_}
-use borrow.Author.Tests.{le-leb, lt-leb, lt-ltb, le-ltb}
-use lib.ListN.{length}
+use Rattle.lists.proofs.Prelude.{_≡_, _∙_, ap, sym, refl, Bool, true, false, _&&_, _||_, _≤_, _<_, eqb, leb, ltb, length, le-leb, lt-leb, lt-ltb, le-ltb}
+use Rattle.lists.proofs.Tests.{and-true, and-false}
 use Rattle.answers.specs.declared.SearchState.{SearchState}
 use Rattle.pattern_set.specs.PatternSet.{PatternSet}
-use Rattle.model.specs.Automaton.{nodes, headOf}
-use Rattle.model.specs.Search.{goodMinima, goodState}
+use Rattle.automaton_model.specs.Automaton.{nodes, headOf}
+use Rattle.search_model.specs.Ring.{goodRing}
+use Rattle.search_model.specs.Search.{ringOf, goodState}
 
 module _ (ps : PatternSet) (st : SearchState) where
   -- its node is none of the automaton's
@@ -25,7 +23,23 @@ module _ (ps : PatternSet) (st : SearchState) where
   unfolding goodState
   state-long h d l = rw (lt-ltb (st .node) (length (nodes ps)) h, le-leb (length (headOf ps (st .node))) (st .taken) d, lt-leb (st .taken) 1048576 l) refl
 
-  -- the open minima decide
-  pub state-minima : st .node < length (nodes ps) → length (headOf ps (st .node)) ≤ st .taken → st .taken ≤ 1048576 → goodMinima st ≡ goodState ps st
+  -- something is taken, and no minimum is open
+  pub state-empty : ltb 0 (st .minima) || eqb (st .taken) 0 ≡ false → false ≡ goodState ps st
   unfolding goodState
-  state-minima h d l = rw (lt-ltb (st .node) (length (nodes ps)) h, le-leb (length (headOf ps (st .node))) (st .taken) d, le-leb (st .taken) 1048576 l) refl
+  state-empty e = sym (ap (λ (b : Bool). rest && b) e ∙ and-false rest)
+    where
+      rest : Bool
+      rest =
+          ltb (st .node) (length (nodes ps))
+          && leb (length (headOf ps (st .node))) (st .taken)
+          && leb (st .taken) 1048576
+          && goodRing (st .taken) (ringOf st)
+
+  -- the open minima decide
+  pub state-minima : st .node < length (nodes ps) → length (headOf ps (st .node)) ≤ st .taken → st .taken ≤ 1048576
+      → ltb 0 (st .minima) || eqb (st .taken) 0 ≡ true
+      → goodRing (st .taken) (ringOf st) ≡ goodState ps st
+  unfolding goodState
+  state-minima h d l e =
+      rw (lt-ltb (st .node) (length (nodes ps)) h, le-leb (length (headOf ps (st .node))) (st .taken) d, le-leb (st .taken) 1048576 l, e)
+      (sym (and-true (goodRing (st .taken) (ringOf st))))

@@ -1,23 +1,25 @@
 -- An array that begins with the words of an automaton has all its records.
-use mathlib.Core.Path.{_≡_, sym, _∙_, ap}
-use mathlib.Core.Bool.{true}
-use mathlib.Core.List.{List, _++_}
-use Prim.Native.Nat.{ℕ, _+_, _*_, _≤_, _<_}
-use native.Mathlib.Omega.{arith}
-use lib.ListN.{length, take, length-append}
-use lib.Seq.{take-append-le}
-use Rattle.lists.specs.Prelude.{begins}
-use Rattle.lists.proofs.Order.{T-true}
-use Rattle.lists.proofs.Lists.{begins-iff}
-use Rattle.model.specs.Automaton.{nodes, automatonWords}
-use Rattle.model.proofs.Lengths.{length-automaton}
-use Rattle.set_access.specs.Patterns.{patternsOf, Good}
+use Rattle.lists.proofs.Prelude.{_≡_, _∙_, ap, true, List, ℕ, _+_, _*_, _≤_, _<_, length, take, length-append, take-append-le, arith, begins}
+use Rattle.lists.proofs.Tests.{T-true}
+use Rattle.lists.proofs.Same.{begins-iff}
+use Rattle.automaton_model.specs.Automaton.{nodes, automatonWords}
+use Rattle.automaton_model.proofs.Lengths.{length-automaton}
+use Rattle.pattern_set.specs.PatternSet.{patternsOf, IsSet}
 use Rattle.automaton_lookup.specs.Made.{Made}
 
-pub begun : (ws words : List ℕ) → Good ws → 0 < length (patternsOf ws) → begins words (automatonWords (patternsOf ws)) ≡ true → (m : ℕ) → m ≤ length (nodes (patternsOf ws)) → Made ws words m
-begun ws words g z b m h =
-    let ps = patternsOf ws in
+pub begun : (set automaton : List ℕ) (k : ℕ) → IsSet set → k ≡ length (patternsOf set) → 0 < length (patternsOf set)
+    → begins automaton (automatonWords (patternsOf set)) ≡ true
+    → (m : ℕ) → m ≤ length (nodes (patternsOf set)) → Made set automaton k m
+begun set automaton k g e z b m h =
+    let ps = patternsOf set in
     let w = automatonWords ps in
-    let r = begins-iff words w .0 (T-true (begins words w) b) in
-    let n = 2 * length ps + 1 + 8 * m in
-    (g, z, h, ap (take n) (r .1) ∙ take-append-le n w (r .0) (omega (arith, length-automaton ps)), omega (arith, ap length (r .1), length-append w (r .0)))
+    let r = begins-iff automaton w .0 (T-true (begins automaton w) b) in
+    let n = 2 * k + 1 + 8 * m in
+    record {
+      isSet = g;
+      patterns = e;
+      filled = z;
+      within = h;
+      begun = ap (take n) (r .1) ∙ take-append-le n w (r .0) (omega (arith, length-automaton ps));
+      room = omega (arith, ap length (r .1), length-append w (r .0));
+    }

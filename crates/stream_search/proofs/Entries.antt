@@ -1,24 +1,17 @@
--- THE ANSWER of a stream search, for each way through the entry: the first refusal that is met, and else what the call does.
-use mathlib.Core.Path.{_≡_, refl, sym, _∙_, ap}
-use mathlib.Core.Bool.{Bool, true, false, cond, not, _&&_}
-use mathlib.Core.List.{List, [], _∷_, _++_}
-use Prim.Native.Nat.{ℕ, suc, _+_, _*_, _≤_, _<_}
-use borrow.Author.Tests.{lt-ltb, le-ltb}
-use lib.Dec.{leb, ltb, leb→le, ltb→lt}
-use lib.IntN.{ℤ}
-use lib.ListN.{length, drop}
-use Rattle.lists.specs.Prelude.{begins}
-use Rattle.lists.proofs.Order.{T-true, true-T}
-use Rattle.lists.proofs.Lists.{and-split}
+-- THE ANSWER of a stream search, for each way through the entry: the first refusal that is met, and
+-- else what the call does.
+use Rattle.lists.proofs.Prelude.{_≡_, _∙_, ap, sym, refl, Bool, true, false, cond, not, _&&_, _||_, List, [], _∷_, _++_, ℕ, suc, _+_, _*_, _≤_, _<_, ℤ, leb}
+use Rattle.lists.proofs.Prelude.{eqb, ltb, leb→le, ltb→lt, length, drop, lt-ltb, le-ltb, begins}
+use Rattle.lists.proofs.Tests.{T-true, true-T, and-split}
 use Rattle.answers.specs.declared.SearchState.{SearchState}
-use Rattle.pattern_set.specs.PatternSet.{PatternSet, readSet}
+use Rattle.pattern_set.specs.PatternSet.{PatternSet, patternsOf, isSet, IsSet}
 use Rattle.matching.specs.Matching.{hitWords}
-use Rattle.model.specs.Refusals.{firstMet, unless, told, after}
-use Rattle.model.specs.Entries.{isBroken, setOf, isUnsearchable, Counts, streamConditions, streamEntry, streamState}
-use Rattle.model.specs.Automaton.{nodes, headOf, automatonWords}
-use Rattle.model.specs.Search.{goodMinima, goodState, Called, call}
-use Rattle.model.proofs.Refusals.{met, unmet, leave}
-use Rattle.set_arrays.proofs.Checked.{broken-searchable, empty-unsearchable, filled-searchable}
+use Rattle.entries.specs.Entries.{firstMet, unless, told, after, isUnsearchable, Counts, streamConditions, streamEntry, streamState}
+use Rattle.automaton_model.specs.Automaton.{nodes, headOf, automatonWords}
+use Rattle.search_model.specs.Ring.{goodRing}
+use Rattle.search_model.specs.Search.{ringOf, goodState, Called, call}
+use Rattle.entries.proofs.Refusals.{met, unmet, leftBy}
+use Rattle.entries.proofs.Searchable.{broken-searchable, empty-unsearchable, filled-searchable, is-broken, not-broken}
 use Rattle.stream_call.specs.declared.Taken.{Taken}
 use Rattle.stream_call.specs.Taken.{IsTaken}
 use Rattle.matching.proofs.HitWords.{length-hitWords}
@@ -27,7 +20,7 @@ use Rattle.matching.proofs.HitWords.{length-hitWords}
 pub record Accepted (ps : PatternSet) (st : SearchState) : Type 0 where
   pub node : st .node < length (nodes ps)
   pub taken : st .taken ≤ 1048576
-  pub minima : goodMinima st ≡ true
+  pub ring : goodRing (st .taken) (ringOf st) ≡ true
 
 pub accepted : (ps : PatternSet) (st : SearchState) → goodState ps st ≡ true → Accepted ps st
 unfolding goodState
@@ -35,19 +28,23 @@ accepted ps st e =
     let node = ltb (st .node) (length (nodes ps)) in
     let deep = leb (length (headOf ps (st .node))) (st .taken) in
     let few = leb (st .taken) 1048576 in
-    let a = and-split (node && deep && few) (goodMinima st) (T-true (goodState ps st) e) in
+    let ring = goodRing (st .taken) (ringOf st) in
+    let all = and-split (node && deep && few && ring) (ltb 0 (st .minima) || eqb (st .taken) 0) (T-true (goodState ps st) e) in
+    let a = and-split (node && deep && few) ring (all .0) in
     let b = and-split (node && deep) few (a .0) in
     let c = and-split node deep (b .0) in
-    record { node = ltb→lt (st .node) (length (nodes ps)) (c .0); taken = leb→le (st .taken) 1048576 (b .1); minima = true-T (goodMinima st) (a .1) }
+    record { node = ltb→lt (st .node) (length (nodes ps)) (c .0); taken = leb→le (st .taken) 1048576 (b .1); ring = true-T ring (a .1) }
 
 module _ (ws automaton : List ℕ) (st : SearchState) (xs : List ℤ) (out : List ℕ) where
   abbrev ps : PatternSet
-  ps = setOf (readSet ws)
+  ps = patternsOf ws
 
-  -- a call that tells this, hands back this state and leaves this array does what the entry promises
+  -- a call that tells this, hands back this state and leaves this array does what the entry
+  -- promises
   abbrev pub Answers : ℕ × Counts → SearchState → List ℕ → Type 0
   Answers tells state array =
-      (tells ≡ told (0, 0, 0, 0) (streamEntry ws automaton st xs out)) × (state ≡ streamState ws automaton st xs out) × (array ≡ after (streamEntry ws automaton st xs out) out)
+      (tells ≡ told (0, 0, 0, 0) (streamEntry ws automaton st xs out)) × (state ≡ streamState ws automaton st xs out) ×
+      (array ≡ after (streamEntry ws automaton st xs out) out)
 
   abbrev refusal : ℕ
   refusal = firstMet (streamConditions ws automaton st xs out)
@@ -63,25 +60,29 @@ module _ (ws automaton : List ℕ) (st : SearchState) (xs : List ℤ) (out : Lis
       let c = call ps st (length out) xs in (
         sym (ap (λ (n : ℕ). tells n c) e),
         sym (ap (λ (n : ℕ). unless n (c .state) st) e),
-        sym (ap (λ (n : ℕ). leave n (hitWords (c .hits)) out) e),
+        sym (ap (λ (n : ℕ). leftBy n (hitWords (c .hits)) out) e),
       )
 
   abbrev seven : List (ℕ × Bool)
-  seven = (7, not (begins automaton (automatonWords ps))) ∷ (8, not (goodState ps st)) ∷ (9, ltb 1048576 (st .taken + length xs)) ∷ (10, ltb (length out) (2 * length ps)) ∷ []
+  seven =
+      (7, not (begins automaton (automatonWords ps))) ∷ (8, not (goodState ps st)) ∷ (9, ltb 1048576 (st .taken + length xs)) ∷
+      (10, ltb (length out) (2 * length ps)) ∷ []
 
-  whole : refusal ≡ firstMet ((1, isUnsearchable (readSet ws)) ∷ (5, isBroken (readSet ws)) ∷ seven)
+  whole : refusal ≡ firstMet ((1, isUnsearchable ws) ∷ (5, not (isSet ws)) ∷ seven)
   unfolding streamConditions
   whole = refl
 
-  pub broken : isBroken (readSet ws) ≡ true → Answers (5, (0, 0, 0, 0)) st out
-  broken b = refused 4 (whole ∙ unmet 1 (isUnsearchable (readSet ws)) ((5, isBroken (readSet ws)) ∷ seven) (broken-searchable (readSet ws) b) ∙ met 5 (isBroken (readSet ws)) seven b)
+  pub broken : isSet ws ≡ false → Answers (5, (0, 0, 0, 0)) st out
+  broken b =
+      refused 4 (whole ∙ unmet 1 (isUnsearchable ws) ((5, not (isSet ws)) ∷ seven) (broken-searchable ws b) ∙ met 5 (not (isSet ws)) seven
+      (is-broken ws b))
 
-  pub empty : isBroken (readSet ws) ≡ false → length ps ≡ 0 → Answers (1, (0, 0, 0, 0)) st out
-  empty b z = refused 0 (whole ∙ met 1 (isUnsearchable (readSet ws)) ((5, isBroken (readSet ws)) ∷ seven) (empty-unsearchable (readSet ws) b z))
+  pub empty : IsSet ws → length ps ≡ 0 → Answers (1, (0, 0, 0, 0)) st out
+  empty b z = refused 0 (whole ∙ met 1 (isUnsearchable ws) ((5, not (isSet ws)) ∷ seven) (empty-unsearchable ws b z))
 
-  module _ (b : isBroken (readSet ws) ≡ false) (z : length ps ≡ 0 → ⊥) where
+  module _ (b : IsSet ws) (z : length ps ≡ 0 → ⊥) where
     set-good : refusal ≡ firstMet seven
-    set-good = whole ∙ unmet 1 (isUnsearchable (readSet ws)) ((5, isBroken (readSet ws)) ∷ seven) (filled-searchable (readSet ws) b z) ∙ unmet 5 (isBroken (readSet ws)) seven b
+    set-good = whole ∙ unmet 1 (isUnsearchable ws) ((5, not (isSet ws)) ∷ seven) (filled-searchable ws b z) ∙ unmet 5 (not (isSet ws)) seven (not-broken ws b)
 
     pub other : begins automaton (automatonWords ps) ≡ false → Answers (7, (0, 0, 0, 0)) st out
     other a = refused 6 (set-good ∙ (rw a refl))
@@ -92,7 +93,8 @@ module _ (ws automaton : List ℕ) (st : SearchState) (xs : List ℤ) (out : Lis
     pub too-long : begins automaton (automatonWords ps) ≡ true → goodState ps st ≡ true → 1048576 < st .taken + length xs → Answers (9, (0, 0, 0, 0)) st out
     too-long a g l = refused 8 (set-good ∙ (rw (a, g, lt-ltb 1048576 (st .taken + length xs) l) refl))
 
-    pub too-short : begins automaton (automatonWords ps) ≡ true → goodState ps st ≡ true → st .taken + length xs ≤ 1048576 → length out < 2 * length ps → Answers (10, (0, 0, 0, 0)) st out
+    pub too-short : begins automaton (automatonWords ps) ≡ true → goodState ps st ≡ true → st .taken + length xs ≤ 1048576
+        → length out < 2 * length ps → Answers (10, (0, 0, 0, 0)) st out
     too-short a g l h = refused 9 (set-good ∙ (rw (a, g, le-ltb 1048576 (st .taken + length xs) l, lt-ltb (length out) (2 * length ps) h) refl))
 
     -- ---- accepted
@@ -106,8 +108,8 @@ module _ (ws automaton : List ℕ) (st : SearchState) (xs : List ℤ) (out : Lis
         let n : refusal ≡ 0 =
         set-good ∙ (rw (a, g, le-ltb 1048576 (st .taken + length xs) l, le-ltb (length out) (2 * length ps) h) refl) in
         let q : answer ≡ tells 0 c = e ∙ (λ i. (0, (sym (t .ended) i, t .taken i, t .hits i, t .attempts i))) in
-        let w : hits ≡ leave 0 (hitWords (c .hits)) out = t .words ∙ ap (λ (m : ℕ). hitWords (c .hits) ++ drop m out) (sym (length-hitWords (c .hits))) in (
+        let w : hits ≡ leftBy 0 (hitWords (c .hits)) out = t .words ∙ ap (λ (m : ℕ). hitWords (c .hits) ++ drop m out) (sym (length-hitWords (c .hits))) in (
           q ∙ sym (ap (λ (m : ℕ). tells m c) n),
           t .state ∙ sym (ap (λ (m : ℕ). unless m (c .state) st) n),
-          w ∙ sym (ap (λ (m : ℕ). leave m (hitWords (c .hits)) out) n),
+          w ∙ sym (ap (λ (m : ℕ). leftBy m (hitWords (c .hits)) out) n),
         )

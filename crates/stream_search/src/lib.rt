@@ -1,16 +1,11 @@
-// The entry of the stream search, and the check of a state that a caller hands in. Document 01: A ladder search; refusals 1 5 7 8 9 10.
-ghost use mathlib.Core.Path.{_≡_};
-ghost use mathlib.Core.Bool.{cond};
-ghost use Prim.Native.Nat.{_*_};
-ghost use lib.Dec.{leb};
-ghost use lib.ListN.{length};
+// The entry of the stream search, and the check of a state that a caller hands in. Document 01: A
+// ladder search; refusals 1 5 7 8 9 10.
+ghost use Rattle.lists.specs.Prelude.{_≡_, cond, _||_, _*_, eqb, leb, ltb};
 ghost use Rattle.answers.specs.Told.{number, toldStreamed};
-ghost use Rattle.pattern_set.specs.PatternSet.{readSet};
-ghost use Rattle.model.specs.Automaton.{nodes};
-ghost use Rattle.model.specs.Entries.{setOf, streamEntry, streamState};
-ghost use Rattle.model.specs.Search.{goodState};
-ghost use Rattle.model.specs.Refusals.{told, after};
-ghost use Rattle.automaton_lookup.specs.Made.{Made};
+ghost use Rattle.pattern_set.specs.PatternSet.{patternsOf};
+ghost use Rattle.entries.specs.Entries.{streamEntry, streamState, told, after};
+ghost use Rattle.search_model.specs.Search.{goodState};
+ghost use Rattle.automaton_lookup.specs.Made.{Whole};
 use answers::Counts;
 use answers::Refusal;
 use answers::SearchState;
@@ -18,26 +13,40 @@ use answers::SetSize;
 use answers::StreamAnswer;
 use answers::Streamed;
 
-// Is the state one that a search may go on from: its node is in the automaton and not deeper than the values taken, these are not too many, and its open minima are good.
-fn state_is_good(set: &[u32], words: &[u32], k: usize, count: usize, state: SearchState) -> bool
-    requires { ⌜ Made (now set) (now words) count ⌝ }
-    requires { ⌜ (k ≡ length (setOf (readSet (now set)))) × (count ≡ length (nodes (setOf (readSet (now set))))) ⌝ }
-    ensures { λ r. ⌜ r ≡ goodState (setOf (readSet (now (set .entry)))) state ⌝ }
+// Is a minimum open, or nothing taken.
+fn has_minimum(minima: u32, taken: u32) -> bool
+    ensures { λ r. ⌜ r ≡ ltb 0 minima || eqb taken 0 ⌝ }
+{
+    if minima > 0 {
+        return true;
+    }
+    taken == 0
+}
+
+// Is the state one that a search may go on from: its node is in the automaton and not deeper than
+// the values taken, these are not too many, with something taken some minimum is open, and its open
+// minima are good.
+fn state_is_good(set: &[u32], automaton: &[u32], k: usize, count: usize, state: SearchState) -> bool
+    requires { ⌜ Whole (now set) (now automaton) k count ⌝ }
+    ensures { λ r. ⌜ r ≡ goodState (patternsOf (now (set .entry))) state ⌝ }
 {
     let node = state.node as usize;
     let taken = state.taken;
     if node >= count {
         return false;
     }
-    if automaton_lookup::depth(set, words, k, count, node) > taken as usize {
+    if automaton_lookup::depth(set, automaton, k, count, node) > taken as usize {
         return false;
     }
     if taken > 1048576 {
         return false;
     }
+    if !has_minimum(state.minima, taken) {
+        return false;
+    }
     let places = state.places;
-    let values = state.values;
-    open_minima::minima_are_good(&places, &values, state.first, state.minima, taken)
+    let heights = state.values;
+    open_minima::minima_are_good(&places, &heights, state.first, state.minima, taken)
 }
 
 // The answer of the values of a call, of which there are n.
@@ -60,7 +69,8 @@ fn refused(given: SearchState, r: Refusal) -> Streamed
     }
 }
 
-// Searches on from a state: takes the values, writes the hits that end at them, and hands the state back.
+// Searches on from a state: takes the values, writes the hits that end at them, and hands the state
+// back.
 pub fn stream_search(
     set: &[u32],
     automaton: &[u32],
@@ -68,9 +78,11 @@ pub fn stream_search(
     values: &[i32],
     hits: &mut [u32],
 ) -> Streamed
-    ensures { λ r. ⌜ toldStreamed (r .answer) ≡ told (0, 0, 0, 0) (streamEntry (now (set .entry)) (now (automaton .entry)) state (now (values .entry)) (now (hits .entry))) ⌝ }
+    ensures { λ r. ⌜ toldStreamed (r .answer) ≡ told (0, 0, 0, 0)
+        (streamEntry (now (set .entry)) (now (automaton .entry)) state (now (values .entry)) (now (hits .entry))) ⌝ }
     ensures { λ r. ⌜ r .state ≡ streamState (now (set .entry)) (now (automaton .entry)) state (now (values .entry)) (now (hits .entry)) ⌝ }
-    ensures { λ _. ⌜ now (hits .exit) ≡ after (streamEntry (now (set .entry)) (now (automaton .entry)) state (now (values .entry)) (now (hits .entry))) (now (hits .entry)) ⌝ }
+    ensures { λ _. ⌜ now (hits .exit) ≡ after (streamEntry (now (set .entry)) (now (automaton .entry)) state (now (values .entry))
+        (now (hits .entry))) (now (hits .entry)) ⌝ }
 {
     let SetSize::Holds(k, _) = set_arrays::check_set(set) else {
         return refused(state, Refusal::BrokenSet);

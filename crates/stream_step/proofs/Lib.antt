@@ -1,6 +1,4 @@
 -- The root of the crate's laws.
-pub mod More
-pub mod Stepping
+pub mod PlaceWords
 pub mod Listed
-pub mod Walk
 pub mod Writing

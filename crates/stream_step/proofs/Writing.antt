@@ -1,27 +1,24 @@
--- WRITING THE HITS: the words of the patterns that end at a node follow those written before, and what is left to list is what the next output link lists.
-use mathlib.Core.Path.{_≡_, refl, sym, _∙_, ap, ap₂}
-use mathlib.Core.Bool.{_&&_}
-use mathlib.Core.List.{List, [], _++_, flatten, append-nil, append-assoc}
-use Prim.Native.Nat.{ℕ, _+_, _*_, _-_, _≤_, _<_}
-use native.Mathlib.Omega.{arith}
-use lib.Dec.{T, leb, leb→le}
-use lib.ListN.{length, getD, take, drop, set, length-append, length-drop, length-set}
-use lib.Seq.{take-length}
-use Rattle.lists.specs.Prelude.{all}
-use Rattle.lists.proofs.Lists.{and-split}
-use Rattle.pattern_set.specs.PatternSet.{PatternSet, goodPattern, goodSet}
+-- WRITING THE HITS: the words of the patterns that end at a node follow those written before, and
+-- what is left to list is what the next output link lists.
+use Rattle.lists.proofs.Prelude.{_≡_, _∙_, ap, sym, refl, ap₂, List, [], _++_, append-nil, append-assoc, ℕ, _+_, _-_, _*_, _≤_, _<_, T, length, getD, take}
+use Rattle.lists.proofs.Prelude.{drop, set, length-append, length-drop, length-set, take-length, arith, all}
+use Rattle.lists.proofs.Parts.{paste}
+use Rattle.pattern_set.proofs.Good.{goodSet-parts}
+use Rattle.pattern_set.specs.PatternSet.{PatternSet, goodSet}
 use Rattle.matching.specs.Matching.{hitWords, failure, chain}
-use Rattle.model.specs.Automaton.{nodes, headOf, nodeOf, endsAt, firstEnd}
-use Rattle.model.specs.Search.{endingAt, listed}
-use Rattle.model.proofs.Nodes.{node-root}
-use Rattle.model.proofs.Order.{firstPlace, order-lt, ends-within}
+use Rattle.automaton_model.specs.Automaton.{nodes, headOf, nodeOf, endsAt, firstEnd, endingAt, listed}
+use Rattle.automaton_model.proofs.Nodes.{node-root}
+use Rattle.automaton_lookup.specs.Places.{firstPlace}
+use Rattle.automaton_model.proofs.Order.{order-lt}
+use Rattle.automaton_lookup.proofs.Places.{ends-within}
 use Rattle.stream_step.specs.PlaceWords.{placeWords}
-use Rattle.stream_step.proofs.More.{paste, length-placeWords, placeWords-append, placeWords-more}
+use Rattle.stream_step.proofs.PlaceWords.{length-placeWords, placeWords-append, placeWords-more}
 use Rattle.stream_step.proofs.Listed.{length-endingAt, ending-at-place, listed-root, output-node, failure-node}
 
 -- ---- the patterns that end at one head
 
--- of the n patterns that end at h, whose numbers lie in the order of k patterns from place `first` on, i are written, at place p, over the array d
+-- of the n patterns that end at h, whose numbers lie in the order of k patterns from place `first`
+-- on, i are written, at place p, over the array d
 pub record Ends (ps : PatternSet) (h : List ℕ) (p k : ℕ) (d : List ℕ) (first n i : ℕ) (hits : List ℕ) : Type 0 where
   pub place : first ≡ firstPlace ps h
   pub number : n ≡ length (endingAt ps h)
@@ -39,20 +36,16 @@ ends-start ps h p k d first n e a b r =
     record { place = a; number = omega arith; order = omega (arith, ends-within ps h); part = omega arith; words = refl; sized = refl; room = omega arith }
 
 -- a number of the order is below that of the patterns, of which there are at most 64
-pub number-small : (ps : PatternSet) → T (goodSet ps) → (i v : ℕ) → i < length ps → v ≡ getD (Rattle.model.specs.Automaton.order ps) i 0 → v < 64
-unfolding goodSet
-number-small ps g i v h e =
-    let a = and-split (leb (length ps) 64 && leb (length (flatten ps)) 4096) (all goodPattern ps) g in
-    let b = and-split (leb (length ps) 64) (leb (length (flatten ps)) 4096) (a .0) in
-    omega (arith, order-lt ps i h, leb→le (length ps) 64 (b .0))
+pub number-small : (ps : PatternSet) → T (goodSet ps) → (i v : ℕ) → i < length ps → v ≡ getD (Rattle.automaton_model.specs.Automaton.order ps) i 0 → v < 64
+number-small ps g i v h e = omega (arith, order-lt ps i h, goodSet-parts ps g .0)
 
 pub ends-more : (ps : PatternSet) (h : List ℕ) (p k : ℕ) (d : List ℕ) (first n i : ℕ) (hits : List ℕ) (v : ℕ) → Ends ps h p k d first n i hits → i < n
-    → v ≡ getD (Rattle.model.specs.Automaton.order ps) (first + i) 0 → Ends ps h p k d first n (i + 1) (set (set hits (2 * i) p) (2 * i + 1) v)
+    → v ≡ getD (Rattle.automaton_model.specs.Automaton.order ps) (first + i) 0 → Ends ps h p k d first n (i + 1) (set (set hits (2 * i) p) (2 * i + 1) v)
 ends-more ps h p k d first n i hits v w l e =
     let E = endingAt ps h in
     let f : v ≡ getD E i 0 =
     e
-    ∙ ap (λ (q : ℕ). getD (Rattle.model.specs.Automaton.order ps) (q + i) 0) (w .place)
+    ∙ ap (λ (q : ℕ). getD (Rattle.automaton_model.specs.Automaton.order ps) (q + i) 0) (w .place)
     ∙ ending-at-place ps h i (omega (arith, w .number, length-endingAt ps h)) in
     let s : length (set (set hits (2 * i) p) (2 * i + 1) v) ≡ length hits = length-set (set hits (2 * i) p) (2 * i + 1) v ∙ length-set hits (2 * i) p in
     record {
@@ -60,7 +53,9 @@ ends-more ps h p k d first n i hits v w l e =
       number = w .number;
       order = w .order;
       part = omega arith;
-      words = ap (λ (q : List ℕ). set (set q (2 * i) p) (2 * i + 1) v) (w .words) ∙ placeWords-more p E d i v (omega (arith, w .number)) (omega (arith, w .number, w .room, w .sized)) f;
+      words =
+          ap (λ (q : List ℕ). set (set q (2 * i) p) (2 * i + 1) v) (w .words)
+          ∙ placeWords-more p E d i v (omega (arith, w .number)) (omega (arith, w .number, w .room, w .sized)) f;
       sized = s ∙ w .sized;
       room = omega (arith, w .room);
     }
@@ -70,11 +65,13 @@ pub ends-end : (ps : PatternSet) (h : List ℕ) (p k : ℕ) (d : List ℕ) (firs
 ends-end ps h p k d first n i hits w l =
     let E = endingAt ps h in
     let q : i ≡ length E = omega (arith, w .number, w .part) in
-    (w .number, w .words ∙ ap (λ (j : ℕ). placeWords p (take j E) ++ drop (2 * j) d) q ∙ ap (λ (js : List ℕ). placeWords p js ++ drop (2 * length E) d) (take-length E))
+    let all = ap (λ (js : List ℕ). placeWords p js ++ drop (2 * length E) d) (take-length E) in
+    (w .number, w .words ∙ ap (λ (j : ℕ). placeWords p (take j E) ++ drop (2 * j) d) q ∙ all)
 
 -- ---- node by node
 
--- of the patterns `js` the first n are written, at place p, over the array d; those listed at node `at` are left
+-- of the patterns `js` the first n are written, at place p, over the array d; those listed at node
+-- `at` are left
 pub record Written (ps : PatternSet) (p : ℕ) (d js : List ℕ) (at n : ℕ) (hits : List ℕ) : Type 0 where
   pub within : at < length (nodes ps)
   pub done : List ℕ
@@ -89,7 +86,7 @@ module _ (ps : PatternSet) (g : T (goodSet ps)) (z : 0 < length ps) (p : ℕ) (d
       → Written ps p d (listed ps (headOf ps n)) o 0 d
   unfolding hitWords
   writing-start n o h e r =
-      let q = output-node ps g n o h e in
+      let q = output-node ps g z n o h e in
       record { within = q .0; done = []; whole = sym (q .2); count = refl; words = refl; sized = refl; room = omega (arith, ap length (q .2)) }
 
   -- the patterns that end at the node have room
@@ -109,7 +106,7 @@ module _ (ps : PatternSet) (g : T (goodSet ps)) (z : 0 < length ps) (p : ℕ) (d
       let E = endingAt ps (headOf ps at) in
       let D = w .done in
       let F = failure-node ps g z at f (w .within) z≢ ef in
-      let O = output-node ps g f o (F .0) eo in
+      let O = output-node ps g z f o (F .0) eo in
       let L : listed ps (headOf ps at) ≡ E ++ listed ps (headOf ps o) = F .2 ∙ ap (λ (l : List ℕ). E ++ l) (sym (O .2)) in
       let lL = ap length L ∙ length-append E (listed ps (headOf ps o)) in
       let lD : length (placeWords p D) ≡ 2 * n = length-placeWords p D ∙ ap (λ (i : ℕ). 2 * i) (sym (w .count)) in

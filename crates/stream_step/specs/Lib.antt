@@ -1,3 +1,2 @@
 -- The root of the crate's definitions.
-pub mod Reached
 pub mod PlaceWords

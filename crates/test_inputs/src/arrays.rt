@@ -1,7 +1,15 @@
 // Reading and comparing arrays.
-ghost use mathlib.Core.Path.{_≡_};
-ghost use Prim.Native.Nat.{_≤_, _<_};
-ghost use lib.ListN.{length};
+ghost use Rattle.lists.specs.Prelude.{_≡_, _≤_, _<_, length};
+
+// What arrays hold before an entry writes to them.
+pub const BEFORE: u32 = 4000000007;
+
+// A word as a number of places.
+pub fn wide(x: u32) -> usize
+    ensures { λ r. ⌜ (r ≡ x) × (r < 4294967296) ⌝ }
+{
+    x as usize
+}
 
 // The word at a place; 0 behind the end.
 pub fn number(s: &[u32], i: usize) -> usize
@@ -11,12 +19,6 @@ pub fn number(s: &[u32], i: usize) -> usize
         return wide(s[i]);
     }
     0
-}
-
-fn wide(x: u32) -> usize
-    ensures { λ r. ⌜ r < 4294967296 ⌝ }
-{
-    x as usize
 }
 
 // Puts a number to a place of an array, if it has that place.
@@ -89,7 +91,7 @@ pub fn held_until(a: &[u32], from: usize, v: u32) -> usize
     i
 }
 
-// Puts v to every place of an array; tells how many there are.
+// Puts v to every place of an array; returns how many there are.
 pub fn hold(out: &mut [u32], v: u32) -> usize
     ensures { λ r. ⌜ r ≡ length (now (out .exit)) ⌝ }
 {

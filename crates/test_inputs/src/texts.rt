@@ -1,5 +1,5 @@
 // Texts made from a seed.
-ghost use Prim.Native.Nat.{_≤_, _<_};
+ghost use Rattle.lists.specs.Prelude.{_≤_, _<_};
 use super::arrays;
 
 // The number after a seed: a step of a linear congruential generator.
@@ -28,7 +28,8 @@ fn extreme(height: usize) -> i32 {
     }
 }
 
-// The height after another one in a text of a kind: of 2, 3, 5 or 6 levels, a walk, many levels, or flat.
+// The height after another one in a text of a kind: of 2, 3, 5 or 6 levels, a walk, many levels, or
+// flat.
 fn height(kind: usize, before: usize, seed: usize) -> usize
     ensures { λ r. ⌜ r ≤ 1000000 ⌝ }
 {
@@ -53,7 +54,8 @@ fn as_value(kind: usize, height: usize) -> i32
     height as i32
 }
 
-// Fills the first n places of an array with a text of a kind, from 0 to 6; tells the seed to go on with.
+// Fills the first n places of an array with a text of a kind, from 0 to 6; returns the seed to go
+// on with.
 pub fn fill(out: &mut [i32], n: usize, kind: usize, seed: usize) -> usize
     ensures { λ r. ⌜ r < 2147483647 ⌝ }
 {
@@ -70,7 +72,8 @@ pub fn fill(out: &mut [i32], n: usize, kind: usize, seed: usize) -> usize
     s
 }
 
-// Copies the text from a place on to the first n places of an array, as far as the text reaches; tells how many values.
+// Copies the text from a place on to the first n places of an array, as far as the text reaches;
+// returns how many values.
 pub fn copy(text: &[i32], from: usize, out: &mut [i32], n: usize) -> usize
     ensures { λ r. ⌜ r ≤ n ⌝ }
 {

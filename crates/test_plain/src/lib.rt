@@ -1,8 +1,7 @@
-// The answers of the searches computed by the definitions of document 01, place by place and window by window. What is read behind the end of an
-// array is 0. A window is told by the place where it begins and the place behind its end.
-ghost use mathlib.Core.Path.{_≡_};
-ghost use Prim.Native.Nat.{_+_, _*_, _≤_, _<_};
-ghost use lib.ListN.{length};
+// The answers of the searches computed by the definitions of document 01, place by place and window
+// by window. What is read behind the end of an array is 0. A window is given by the place where it
+// begins and the place behind its end.
+ghost use Rattle.lists.specs.Prelude.{_+_, _≤_, _<_, length};
 use test_inputs::arrays;
 
 // ---- the text
@@ -18,7 +17,8 @@ fn not_above(text: &[i32], j: usize, i: usize) -> bool {
     text[j] <= text[i]
 }
 
-// The distance of place i in the window that begins at the place from: back to the nearest value in it that is not above that at i.
+// The distance of place i in the window that begins at the place from: back to the nearest value in
+// it that is not above that at i.
 pub fn distance(text: &[i32], from: usize, i: usize) -> usize
     ensures { λ r. ⌜ r ≤ i ⌝ }
 {
@@ -32,7 +32,8 @@ pub fn distance(text: &[i32], from: usize, i: usize) -> usize
     0
 }
 
-// The first place behind q and before an end whose value is smaller than that at q; the end where there is none.
+// The first place behind q and before an end whose value is smaller than that at q; the end where
+// there is none.
 pub fn closed_at(text: &[i32], q: usize, end: usize) -> usize
     ensures { λ r. ⌜ r ≤ q + end ⌝ }
 {
@@ -107,7 +108,7 @@ fn begins_with(set: &[u32], j: usize, text: &[i32], from: usize, end: usize) -> 
 
 // ---- hits
 
-// Puts a hit behind the words that hold hits, if it fits; tells the place behind it.
+// Puts a hit behind the words that hold hits, if it fits; returns the place behind it.
 fn put_hit(out: &mut [u32], at: usize, place: usize, j: usize) -> usize
     requires { ⌜ at ≤ length (now out) ⌝ }
     ensures { λ r. ⌜ r ≤ length (now (out .exit)) ⌝ }
@@ -195,7 +196,8 @@ pub fn longest(set: &[u32]) -> usize
     most
 }
 
-// Writes the hits whose last place is one from first up to last, without last; tells how many words they are.
+// Writes the hits whose last place is one from first up to last, without last; returns how many
+// words they are.
 pub fn hits_between(set: &[u32], text: &[i32], first: usize, last: usize, out: &mut [u32]) -> usize
     ensures { λ r. ⌜ r ≤ length (now (out .exit)) ⌝ }
 {
@@ -224,8 +226,9 @@ fn fingerprint_length(set: &[u32]) -> usize
     b
 }
 
-// Whether the last b values before a place have the fingerprint of the last b values of pattern j: the next value is not below this one
-// in the window where it is in the pattern, that is where its distance is 1.
+// Whether the last b values before a place have the fingerprint of the last b values of pattern j:
+// the next value is not below this one in the window where it is in the pattern, that is where its
+// distance is 1.
 fn same_fingerprint(set: &[u32], j: usize, text: &[i32], end: usize, b: usize) -> bool
     requires { ⌜ b ≤ 17 ⌝ }
 {
@@ -297,7 +300,8 @@ fn is_head(set: &[u32], text: &[i32], from: usize, end: usize) -> bool
     false
 }
 
-// The length of the longest suffix of the values before a place, of at most 256, that has the tree of some head.
+// The length of the longest suffix of the values before a place, of at most 256, that has the tree
+// of some head.
 pub fn longest_head(set: &[u32], text: &[i32], end: usize) -> usize
     ensures { λ r. ⌜ r ≤ 256 ⌝ }
 {
@@ -311,8 +315,9 @@ pub fn longest_head(set: &[u32], text: &[i32], end: usize) -> usize
     0
 }
 
-// The attempts of the value at place p: one for each suffix of the values before it that has the tree of some head, from the longest down to the
-// first that has such a tree also with the value behind it.
+// The attempts of the value at place p: one for each suffix of the values before it that has the
+// tree of some head, from the longest down to the first that has such a tree also with the value
+// behind it.
 fn attempts_at(set: &[u32], text: &[i32], p: usize) -> usize
     requires { ⌜ p < length (now text) ⌝ }
     ensures { λ r. ⌜ r ≤ 257 ⌝ }

@@ -1,10 +1,10 @@
-// Sets for test programs, made by the entries of the crate finder. No function asks anything of its caller.
-ghost use Prim.Native.Nat.{_≤_, _<_};
-ghost use lib.ListN.{length};
+// Sets for test programs, made by the entries of the crate finder. No function asks anything of its
+// caller.
+ghost use Rattle.lists.specs.Prelude.{_≤_, _<_, length};
 use test_inputs::arrays;
 use test_inputs::texts;
 
-// Adds the pattern of the first n values; tells how many they are.
+// Adds the pattern of the first n values; returns how many they are.
 pub fn add(set: &mut [u32], values: &[i32], n: usize) -> usize
     ensures { λ r. ⌜ (r ≤ n) × (r ≤ length (now (values .entry))) ⌝ }
 {
@@ -22,7 +22,7 @@ fn copy_window(text: &[i32], values: &mut [i32], n: usize, seed: usize) {
     texts::copy(text, from, values, n);
 }
 
-// Adds a pattern of n values, which are put into the array; tells the seed to go on with.
+// Adds a pattern of n values, which are put into the array; returns the seed to go on with.
 fn add_filled(
     set: &mut [u32],
     values: &mut [i32],
@@ -39,7 +39,8 @@ fn add_filled(
     s
 }
 
-// Adds a pattern of n values, from a seed or, where the text reaches, from a window of it; tells the seed to go on with.
+// Adds a pattern of n values, from a seed or, where the text reaches, from a window of it; returns
+// the seed to go on with.
 pub fn add_made(set: &mut [u32], text: &[i32], kind: usize, n: usize, seed: usize) -> usize
     ensures { λ r. ⌜ r < 2147483647 ⌝ }
 {
@@ -47,7 +48,7 @@ pub fn add_made(set: &mut [u32], text: &[i32], kind: usize, n: usize, seed: usiz
     add_filled(set, &mut values, text, kind, n, seed)
 }
 
-// The set of k patterns of 1 to most + 1 values each; tells the seed to go on with.
+// The set of k patterns of 1 to most + 1 values each; returns the seed to go on with.
 pub fn make(set: &mut [u32], text: &[i32], kind: usize, k: usize, most: usize, seed: usize) -> usize
     ensures { λ r. ⌜ r < 2147483647 ⌝ }
 {

@@ -1,135 +1,184 @@
-// States of a search: compared, changed, and held against what they must be after a front of a text.
-ghost use mathlib.Core.Path.{_≡_};
-ghost use Prim.Native.Nat.{_≤_, _<_};
-ghost use lib.Dec.{T};
+// States of a search: compared, changed, and held against what they must be after a front of a
+// text.
+ghost use Rattle.lists.specs.Prelude.{_≡_, _<_};
 use answers::SearchState;
 use test_inputs::arrays;
+use test_inputs::difference;
+use test_inputs::difference::Difference;
+use test_inputs::difference::Part;
 
-// A word as a number.
-pub fn wide(x: u32) -> usize
-    ensures { λ r. ⌜ (r ≡ x) × (r < 4294967296) ⌝ }
-{
-    x as usize
+// The open minima that were looked for, and what differs in their slots.
+struct Open {
+    count: usize,
+    difference: Difference,
 }
 
-fn slot_holds(places: &[u32; 256], values: &[i32; 256], slot: usize, text: &[i32], q: usize) -> bool
-    requires { ⌜ slot < 256 ⌝ }
-{
-    if q >= text.len() {
-        return false;
-    }
-    if wide(places[slot]) != q {
-        return false;
-    }
-    values[slot] == text[q]
-}
-
-// One more than i if the value at place q is an open minimum and stands in slot i of the ring, i if it is none, and 100000 else.
-fn matched(
+// The slot of open minimum i is expected to hold the value at place q of the text.
+fn expect_slot(
     places: &[u32; 256],
     values: &[i32; 256],
-    first: u8,
+    slot: usize,
     i: usize,
     text: &[i32],
     q: usize,
-    taken: usize,
-) -> usize
-    ensures { λ r. ⌜ r ≤ 100001 ⌝ }
+) -> Difference
+    requires { ⌜ slot < 256 ⌝ }
 {
-    let n = arrays::smaller(i, 100000);
-    if test_plain::closed_at(text, q, taken) < taken {
-        return n;
+    if q >= text.len() {
+        return difference::expect_truth(Part::Taken, true, false);
     }
-    if slot_holds(places, values, (first as usize + n) % 256, text, q) {
-        return n + 1;
-    }
-    100000
+    let held = arrays::wide(places[slot]);
+    let place = difference::expect_at(Part::SlotPlace, i, q as u64, held as u64);
+    difference::first(place, difference::expect_value(i, text[q], values[slot]))
 }
 
-// How many of the last 256 values taken are open minima, if the ring holds them in order.
-fn count_open(
+// The same with one open minimum more, if the value at place q is one.
+fn look_for(
+    places: &[u32; 256],
+    values: &[i32; 256],
+    first: u8,
+    o: Open,
+    text: &[i32],
+    q: usize,
+    taken: usize,
+) -> Open {
+    if test_plain::closed_at(text, q, taken) < taken {
+        return o;
+    }
+    let i = arrays::smaller(o.count, 256);
+    let d = o.difference;
+    let slot = expect_slot(places, values, (first as usize + i) % 256, i, text, q);
+    Open {
+        count: i + 1,
+        difference: difference::first(d, slot),
+    }
+}
+
+// The open minima among the last 256 values taken, and what differs in their slots.
+fn look_for_all(
     places: &[u32; 256],
     values: &[i32; 256],
     first: u8,
     text: &[i32],
     taken: usize,
-) -> usize {
+) -> Open {
     let mut q = if taken > 256 { taken - 256 } else { 0 };
-    let mut i: usize = 0;
+    let mut o = Open {
+        count: 0,
+        difference: difference::none(),
+    };
     while q < taken {
-        i = matched(places, values, first, i, text, q, taken);
+        o = look_for(places, values, first, o, text, q, taken);
         q += 1;
     }
-    i
+    o
 }
 
-// Whether the open minima are those of the text as far as it is taken.
-fn minima_are_open(state: SearchState, text: &[i32]) -> bool {
+// The open minima are expected to be those of the text as far as it is taken.
+fn expect_minima(state: SearchState, text: &[i32]) -> Difference {
     let places = state.places;
     let values = state.values;
-    let n = count_open(&places, &values, state.first, text, wide(state.taken));
-    n == wide(state.minima)
+    let o = look_for_all(
+        &places,
+        &values,
+        state.first,
+        text,
+        arrays::wide(state.taken),
+    );
+    let d = o.difference;
+    difference::first(
+        difference::expect_size(Part::Minima, o.count, arrays::wide(state.minima)),
+        d,
+    )
 }
 
-// Whether the node has the longest suffix of the text, as far as it is taken, that is a head.
-fn node_is_longest(
+// The node is expected to have the longest suffix of the text, as far as it is taken, that is a
+// head.
+fn expect_node(
     set: &[u32],
     automaton: &[u32],
     node: usize,
     text: &[i32],
     taken: usize,
-) -> bool {
+) -> Difference {
     let k = test_plain::pattern_count(set);
     let n = test_plain::longest_head(set, text, taken);
-    if test_automaton::field(automaton, k, node, 0) != n {
-        return false;
-    }
+    let depth = difference::expect_size(
+        Part::Depth,
+        n,
+        test_automaton::field(automaton, k, node, 0),
+    );
     if n == 0 {
-        return true;
+        return depth;
     }
     if n > taken {
-        return false;
+        return difference::expect_size(Part::Taken, n, taken);
     }
-    test_automaton::field(automaton, k, node, 1) == test_plain::distance(text, taken - n, taken - 1)
+    let last = test_plain::distance(text, taken - n, taken - 1);
+    difference::first(
+        depth,
+        difference::expect_size(
+            Part::LastDistance,
+            last,
+            test_automaton::field(automaton, k, node, 1),
+        ),
+    )
 }
 
-// Whether the state is that after the first values of the text.
-pub fn is_after(
+// The state is expected to be that after the first values of the text.
+pub fn expect_after(
     state: SearchState,
     set: &[u32],
     automaton: &[u32],
     text: &[i32],
     taken: usize,
-) -> bool
-    ensures { λ r. ⌜ (T r → state .taken ≡ taken) ⌝ }
-{
-    if wide(state.taken) != taken {
-        return false;
+) -> Difference {
+    let count = difference::expect_size(Part::Taken, taken, arrays::wide(state.taken));
+    if !difference::is_none(count) {
+        return count;
     }
-    let open = minima_are_open(state, text);
-    open && node_is_longest(set, automaton, wide(state.node), text, taken)
+    let minima = expect_minima(state, text);
+    difference::first(
+        minima,
+        expect_node(set, automaton, arrays::wide(state.node), text, taken),
+    )
 }
 
-fn same_slots(p: &[u32; 256], q: &[u32; 256], v: &[i32; 256], w: &[i32; 256]) -> bool {
-    let a = arrays::alike(p, q);
-    let b = arrays::alike_values(v, w);
-    a == 256 && b == 256
+// The values of slots, held against those expected.
+fn expect_slot_values(expected: &[i32; 256], got: &[i32; 256]) -> Difference {
+    let i = arrays::alike_values(expected, got);
+    if i >= 256 {
+        return difference::none();
+    }
+    difference::expect_value(i, expected[i], got[i])
 }
 
-// Whether two states are the same, to the last slot.
-pub fn same(a: SearchState, b: SearchState) -> bool
-    ensures { λ r. ⌜ (T r → a .taken ≡ b .taken) ⌝ }
-{
-    if a.taken != b.taken {
-        return false;
-    }
-    let p = a.places;
-    let q = b.places;
-    let v = a.values;
-    let w = b.values;
-    let numbers = a.node == b.node && a.minima == b.minima && a.first == b.first;
-    let slots = same_slots(&p, &q, &v, &w);
-    numbers && slots
+// The slots of a state, held against those expected.
+fn expect_slots(p: &[u32; 256], q: &[u32; 256], v: &[i32; 256], w: &[i32; 256]) -> Difference {
+    let places = difference::expect_words(p, q);
+    difference::first(places, expect_slot_values(v, w))
+}
+
+// The numbers of a state, held against those expected.
+fn expect_numbers(expected: SearchState, got: SearchState) -> Difference {
+    let taken = difference::expect(Part::Taken, expected.taken as u64, got.taken as u64);
+    let node = difference::expect(Part::Node, expected.node as u64, got.node as u64);
+    let minima = difference::expect(Part::Minima, expected.minima as u64, got.minima as u64);
+    let slot = difference::expect(Part::FirstSlot, expected.first as u64, got.first as u64);
+    difference::first(
+        difference::first(taken, node),
+        difference::first(minima, slot),
+    )
+}
+
+// A state, held against the one expected, to the last slot.
+pub fn expect_same(expected: SearchState, got: SearchState) -> Difference {
+    let p = expected.places;
+    let q = got.places;
+    let v = expected.values;
+    let w = got.values;
+    let slots = expect_slots(&p, &q, &v, &w);
+    difference::first(expect_numbers(expected, got), slots)
 }
 
 // The state at another node, or with another number of values taken.

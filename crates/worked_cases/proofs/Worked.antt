@@ -1,11 +1,8 @@
--- THE WORKED CASES: in every line of the table the two sides are equal. One test over the whole table is computed.
-use mathlib.Core.Path.{_≡_, refl, ap, ap₂}
-use mathlib.Core.Bool.{Bool, true, false, _&&_}
-use mathlib.Core.List.{List, [], _∷_, flatten}
-use lib.Dec.{T, eqb, eqb→eq}
-use lib.IntN.{ℤ, pos, negsuc}
-use Rattle.lists.specs.Prelude.{tabulate, lastBelow, any, select, same}
-use Rattle.lists.proofs.Lists.{and-split}
+-- THE WORKED CASES: in every line of the table the two sides are equal. One test over the whole
+-- table is computed.
+use Rattle.lists.proofs.Prelude.{_≡_, ap, refl, ap₂, Bool, true, false, _&&_, List, [], _∷_, flatten, ℤ, pos, negsuc, T, eqb, eqb→eq, tabulate, lastBelow, any}
+use Rattle.lists.proofs.Prelude.{select, same}
+use Rattle.lists.proofs.Tests.{and-split}
 use Rattle.cartesian.specs.Cartesian.{size, leftmostFrom, leftmost, treeWithin, tree, sameTree, distanceAt, distances, cutFrom, rootPlace, treeOfWithin, treeOf}
 use Rattle.realization.specs.Realization.{walk, realizable, leftTurns, leastRealization, failureLength, failureLengths}
 use Rattle.global_parents.specs.GlobalParents.{lastLeftChild, isPrefixChild, globalParent, globalParents}
@@ -58,5 +55,7 @@ all-hold (c ∷ cs) t =
     (alike-eq (c .given) (c .expected) (p .0), all-hold cs (p .1))
 
 pub worked : AllHold table
-unfolding table hold alike equal tabulate lastBelow any select same flatten size leftmostFrom leftmost treeWithin tree sameTree distanceAt distances cutFrom rootPlace treeOfWithin treeOf walk realizable leftTurns leastRealization failureLength failureLengths lastLeftChild isPrefixChild globalParent globalParents factorial rankFrom unrank isRank hasTree numbersFrom endHits hitsAt hits hitWords
+unfolding table hold alike equal tabulate lastBelow any select same flatten size leftmostFrom leftmost treeWithin tree sameTree distanceAt distances cutFrom
+    rootPlace treeOfWithin treeOf walk realizable leftTurns leastRealization failureLength failureLengths lastLeftChild isPrefixChild globalParent globalParents
+    factorial rankFrom unrank isRank hasTree numbersFrom endHits hitsAt hits hitWords
 worked = all-hold table tt

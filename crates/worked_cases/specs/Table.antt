@@ -1,12 +1,12 @@
--- The starred worked cases of document 01 ('Readings worked through'), as one table: what a definition gives, and what document 01 says that it is.
+-- The starred worked cases of document 01 ('Readings worked through'), as one table: what a
+-- definition gives, and what document 01 says that it is.
 use Rattle.lists.specs.Prelude.{List, [], _∷_, map, ℕ, ℤ, pos}
 use Rattle.cartesian.specs.Cartesian.{distances}
 use Rattle.realization.specs.Realization.{leastRealization, failureLengths}
 use Rattle.global_parents.specs.GlobalParents.{globalParents}
 use Rattle.ranking.specs.Rank.{rank, unrank}
 use Rattle.matching.specs.Matching.{hits, hitWords}
-use Rattle.model.specs.Refusals.{told}
-use Rattle.model.specs.Entries.{listEntry, encodeEntry, decodeEntry}
+use Rattle.entries.specs.Entries.{told, listEntry, encodeEntry, decodeEntry}
 
 -- numbers as values
 abbrev pub values : List ℕ → List ℤ

@@ -1,40 +1,47 @@
--- `is_automaton` meets its contract: with the front the number of nodes is known, so that the length can be tested, and then the records.
-use native.Mathlib.Omega.{arith}
-use borrow.Author.Needs.{needs}
-use borrow.Author.Tests.{not-true, not-false}
-use mathlib.Core.Path.{_≡_, sym, _∙_}
-use Prim.Native.Nat.{_+_, _*_, _≤_}
-use lib.ListN.{length, take}
-use Rattle.model.specs.Automaton.{nodes, automatonWords}
-use Rattle.model.proofs.Lengths.{length-automaton}
-use Rattle.set_access.specs.Patterns.{patternsOf}
+-- `is_automaton` meets its contract: with the front the number of nodes is known, so that the
+-- length can be tested, and then the records.
+use Rattle.lists.proofs.Prelude.{_≡_, _∙_, sym, _+_, _*_, _≤_, length, take, arith, not-false, not-true, needs}
+use Rattle.lists.proofs.Same.{true-same}
+use Rattle.automaton_model.specs.Automaton.{nodes, automatonWords}
+use Rattle.automaton_model.proofs.Lengths.{length-automaton}
+use Rattle.pattern_set.specs.PatternSet.{patternsOf}
 use Rattle.set_access.proofs.Laws.{count-le}
 use Rattle.automaton_records.proofs.Sizes.{nodes-small}
-use Rattle.automaton.proofs.More.{true-same}
 use Rattle.automaton.proofs.Entries.{front-differs, words-short, front-fits, front-count, front-made}
 use Rattle.automaton.proofs.is_automaton.Statement.{statement}
 use Rattle.automaton.proofs.is_automaton.Tie as tie
 
+-- the call, from the number of patterns and from the front's test
+abbrev counted : tie.After-pattern-count → tie.Start
+counted c = c .before .before .before
+
+abbrev tested : tie.Else1 → tie.After-pattern-count
+tested c = c .before .before
+
 -- the words have the front
-front : (c : tie.Else1) → take (2 * c .before .before .pattern-count .result + 1) (c .before .before .before .before .before .args .words .now) ≡ take (2 * c .before .before .pattern-count .result + 1) (automatonWords (patternsOf (c .before .before .before .before .before .args .set .now)))
+front : (c : tie.Else1) →
+    let k = tested c .pattern-count .result in
+    let s = counted (tested c) in
+    take (2 * k + 1) (s .args .words .now) ≡ take (2 * k + 1) (automatonWords (patternsOf (s .args .set .now)))
 front c = true-same _ _ (sym (c .before .is-front .ensures) ∙ not-false _ (c .if1 .left))
 
 -- and so the number of nodes
-counted : (c : tie.After-wide) → c .wide .result ≡ length (nodes (patternsOf (c .before .before .before .before .before .before .before .args .set .now)))
-counted c =
+nodes-known : (c : tie.After-wide) → c .wide .result ≡ length (nodes (patternsOf (counted (tested (c .before .before)) .args .set .now)))
+nodes-known c =
     let E = c .before .before in
-    let k = E .before .before in
-    let st = k .before .before .before in
-    c .wide .ensures ∙ front-count (st .args .set .now) (st .args .words .now) (st .pre .0) (st .pre .1) (k .pattern-count .result) (k .pattern-count .ensures) (front E)
+    let k = tested E in
+    let s = counted k in
+    c .wide .ensures
+    ∙ front-count (s .args .set .now) (s .args .words .now) (s .pre .0) (s .pre .1) (k .pattern-count .result) (k .pattern-count .ensures) (front E)
 
 -- and neither number is large
 sizes : (c : tie.After-pattern-count) → c .pattern-count .result ≤ 64
-sizes c = omega (arith, count-le (c .before .before .before .args .set .now) (c .before .before .before .pre .0), c .pattern-count .ensures)
+sizes c = omega (arith, count-le (counted c .args .set .now) (counted c .pre .0), c .pattern-count .ensures)
 
 few : (c : tie.After-wide) → c .wide .result ≤ 4097
 few c =
-    let st = c .before .before .before .before .before .before .before in
-    omega (arith, nodes-small (st .args .set .now) (st .pre .0), counted c)
+    let s = counted (tested (c .before .before)) in
+    omega (arith, nodes-small (s .args .set .now) (s .pre .0), nodes-known c)
 
 pattern-count-requires : tie.Need-pattern-count-requires
 pattern-count-requires c κs = c .before .before .pre .0
@@ -45,8 +52,10 @@ is-front-requires c κs = (c .before .before .before .pre .0, c .pattern-count .
 returns : tie.Need-returns
 returns c =
     let k = c .before .before in
-    let st = k .before .before .before in
-    sym (front-differs (st .args .set .now) (st .args .words .now) (st .pre .0) (st .pre .1) (k .pattern-count .result) (k .pattern-count .ensures) (sym (c .before .is-front .ensures) ∙ not-true _ (c .if1 .taken)))
+    let s = counted k in
+    sym
+    (front-differs (s .args .set .now) (s .args .words .now) (s .pre .0) (s .pre .1) (k .pattern-count .result) (k .pattern-count .ensures)
+    (sym (c .before .is-front .ensures) ∙ not-true _ (c .if1 .taken)))
 
 mul-wide : tie.Need-mul-wide
 mul-wide c =
@@ -60,9 +69,10 @@ mul-wide-2 c =
 
 shared-slice-read-wide : tie.Need-shared-slice-read-wide
 shared-slice-read-wide c =
-    let k = c .before .before .before in
-    let st = k .before .before .before in
-    omega (arith, front-fits (st .args .set .now) (st .args .words .now) (st .pre .0) (st .pre .1) (k .pattern-count .result) (k .pattern-count .ensures) (front (c .before)))
+    let k = tested (c .before) in
+    let s = counted k in
+    let n = k .pattern-count in
+    omega (arith, front-fits (s .args .set .now) (s .args .words .now) (s .pre .0) (s .pre .1) (n .result) (n .ensures) (front (c .before)))
 
 wide-requires : tie.Need-wide-requires
 wide-requires c κs = search needs
@@ -90,18 +100,21 @@ add-if2-2 c =
 
 returns-2 : tie.Need-returns-2
 returns-2 c =
-    let k = c .before .before .before .before .before in
-    let st = k .before .before .before in
+    let k = tested (c .before .before .before) in
+    let s = counted k in
     sym
-    (words-short (patternsOf (st .args .set .now)) (st .args .words .now)
-    (omega (arith, c .if2 .taken, length-automaton (patternsOf (st .args .set .now)), counted (c .before), k .pattern-count .ensures)))
+    (words-short (patternsOf (s .args .set .now)) (s .args .words .now)
+    (omega (arith, c .if2 .taken, length-automaton (patternsOf (s .args .set .now)), nodes-known (c .before), k .pattern-count .ensures)))
 
 are-records-requires : tie.Need-are-records-requires
 are-records-requires c κs =
     let E = c .before .before .before in
-    let k = E .before .before in
-    let st = k .before .before .before in
-    (front-made (st .args .set .now) (st .args .words .now) (st .pre .0) (st .pre .1) (k .pattern-count .result) (k .pattern-count .ensures) (front E) (omega (arith, c .if2 .left, length-automaton (patternsOf (st .args .set .now)), counted (c .before), k .pattern-count .ensures)), (k .pattern-count .ensures, counted (c .before)))
+    let k = tested E in
+    let s = counted k in (
+      front-made (s .args .set .now) (s .args .words .now) (s .pre .0) (s .pre .1) (k .pattern-count .result) (k .pattern-count .ensures) (front E)
+          (omega (arith, c .if2 .left, length-automaton (patternsOf (s .args .set .now)), nodes-known (c .before), k .pattern-count .ensures)),
+      nodes-known (c .before),
+    )
 
 returns-3 : tie.Need-returns-3
 returns-3 c = c .are-records .ensures

@@ -1,21 +1,30 @@
--- `child` meets its contract: the interval from lo to hi - 1 always holds the branch, if there is one (`Interval`), since the labels of the children rise;
--- of an interval of one child the last comparison tells. The measure is the interval's length, which a turn halves.
-use mathlib.Core.Path.{sym, _∙_}
-use Prim.Native.Nat.{_+_, _-_, _/_}
-use native.Mathlib.Omega.{arith}
-use borrow.Author.Needs.{needs}
-use Rattle.pattern_set.specs.PatternSet.{readSet}
-use Rattle.model.specs.Entries.{setOf}
-use Rattle.automaton_lookup.proofs.Words.{good-set}
-use Rattle.automaton_lookup.proofs.Branches.{Interval, search-none, search-all, search-upper, search-lower, search-found, search-missing}
+-- `child` meets its contract: the interval from lo to hi - 1 always holds the child, if there is
+-- one (`Interval`), since the labels of the children rise; of an interval of one child the last
+-- comparison tells. The measure is the interval's length, which a turn halves.
+use Rattle.lists.proofs.Prelude.{_∙_, sym, _+_, _-_, _/_, _<_, length, arith, needs}
+use Rattle.pattern_set.specs.PatternSet.{patternsOf}
+use Rattle.automaton_model.specs.Automaton.{nodes}
+use Rattle.automaton_lookup.proofs.Words.{made-good}
+use Rattle.automaton_lookup.proofs.ChildSearch.{Interval, search-none, search-all, search-upper, search-lower, search-found, search-missing}
 use Rattle.automaton_lookup.proofs.child.Statement.{statement}
 use Rattle.automaton_lookup.proofs.child.Tie as tie
 
 abbrev Inv-loop : tie.InvT-loop
-Inv-loop set words k made node label wanted first n lo₀ hi₀ lo hi = Interval (setOf (readSet set)) node label lo hi
+Inv-loop set automaton k made node label wanted first n lo₀ hi₀ lo hi = Interval (patternsOf set) node label lo hi
 
 abbrev μ-loop : tie.MeasureT-loop
-μ-loop set words k made node label wanted first n lo₀ hi₀ lo hi = hi - lo
+μ-loop set automaton k made node label wanted first n lo₀ hi₀ lo hi = hi - lo
+
+-- the call, from the children's number and from the loop
+abbrev counted : tie.After-children Inv-loop μ-loop → tie.Start Inv-loop μ-loop
+counted c = c .before .before .before .before .before
+
+abbrev entered : tie.At-loop Inv-loop μ-loop → tie.Start Inv-loop μ-loop
+entered c = counted (c .before .before)
+
+-- the node is one of the automaton of a good set
+within : (c : tie.Start Inv-loop μ-loop) → c .args .node < length (nodes (patternsOf (c .args .set .now)))
+within c = omega (arith, c .pre .0 .within, c .pre .1 .0)
 
 wide-requires : tie.Need-wide-requires Inv-loop μ-loop
 wide-requires c κs = search needs
@@ -28,18 +37,20 @@ children-requires c κs = search needs
 
 returns : tie.Need-returns Inv-loop μ-loop
 returns c =
-    let s = c .before .before .before .before .before .before in
-    let ws = s .args .set .now in
-    search-none (setOf (readSet ws)) (good-set ws (s .pre .0 .0)) (s .pre .0 .1) (s .args .node) (omega arith) (s .args .label) (sym (c .before .children .ensures) ∙ c .if1 .taken)
+    let s = counted (c .before) in
+    let m = s .pre .0 in
+    search-none (patternsOf (s .args .set .now)) (made-good m) (m .filled) (s .args .node) (within s) (s .args .label)
+    (sym (c .before .children .ensures) ∙ c .if1 .taken)
 
 add-hi : tie.Need-add-hi Inv-loop μ-loop
 add-hi c = search needs
 
 loop-holds : tie.Need-loop-holds Inv-loop μ-loop
 loop-holds c =
-    let s = c .before .before .before .before .before .before in
-    let ws = s .args .set .now in
-    search-all (setOf (readSet ws)) (good-set ws (s .pre .0 .0)) (s .pre .0 .1) (s .args .node) (omega arith) (s .args .label) _ _ (omega arith) (omega arith) (omega arith)
+    let s = counted (c .before) in
+    let m = s .pre .0 in
+    search-all (patternsOf (s .args .set .now)) (made-good m) (m .filled) (s .args .node) (within s) (s .args .label) _ _ (omega arith) (omega arith)
+    (omega arith)
 
 sub-loop : tie.Need-sub-loop Inv-loop μ-loop
 sub-loop c = search needs
@@ -58,37 +69,41 @@ loop-less c = search needs
 
 loop-again : tie.Need-loop-again Inv-loop μ-loop
 loop-again c =
-    let L = c .before .before .before .loop in
-    let s = c .before .before .before .before .before .before .before .before .before .before in
-    let ws = s .args .set .now in
-    search-upper (setOf (readSet ws)) (good-set ws (s .pre .0 .0)) (s .pre .0 .1) (s .args .node) (omega arith) (s .args .label) (L .lo) (L .hi) (L .lo + (L .hi - L .lo) / 2) (L .inv) (omega arith) (omega arith) (omega (arith, c .before .label .ensures))
+    let L = c .before .before .before in
+    let s = entered L in
+    let m = s .pre .0 in
+    search-upper (patternsOf (s .args .set .now)) (made-good m) (m .filled) (s .args .node) (within s) (s .args .label) (L .loop .lo) (L .loop .hi)
+    (L .loop .lo + (L .loop .hi - L .loop .lo) / 2) (L .loop .inv) (omega arith) (omega arith) (omega (arith, c .before .label .ensures))
 
 loop-less-2 : tie.Need-loop-less-2 Inv-loop μ-loop
 loop-less-2 c = search needs
 
 loop-again-2 : tie.Need-loop-again-2 Inv-loop μ-loop
 loop-again-2 c =
-    let L = c .before .before .before .loop in
-    let s = c .before .before .before .before .before .before .before .before .before .before in
-    let ws = s .args .set .now in
-    search-lower (setOf (readSet ws)) (good-set ws (s .pre .0 .0)) (s .pre .0 .1) (s .args .node) (omega arith) (s .args .label) (L .lo) (L .hi) (L .lo + (L .hi - L .lo) / 2) (L .inv) (omega arith) (omega arith) (omega (arith, c .before .label .ensures))
+    let L = c .before .before .before in
+    let s = entered L in
+    let m = s .pre .0 in
+    search-lower (patternsOf (s .args .set .now)) (made-good m) (m .filled) (s .args .node) (within s) (s .args .label) (L .loop .lo) (L .loop .hi)
+    (L .loop .lo + (L .loop .hi - L .loop .lo) / 2) (L .loop .inv) (omega arith) (omega arith) (omega (arith, c .before .label .ensures))
 
 label-requires-2 : tie.Need-label-requires-2 Inv-loop μ-loop
 label-requires-2 c κs = search needs
 
 returns-2 : tie.Need-returns-2 Inv-loop μ-loop
 returns-2 c =
-    let L = c .before .before .before .loop in
-    let s = c .before .before .before .before .before .before .before .before .before .before in
-    let ws = s .args .set .now in
-    search-found (setOf (readSet ws)) (good-set ws (s .pre .0 .0)) (s .pre .0 .1) (s .args .node) (omega arith) (s .args .label) (L .lo) (L .hi) (L .inv) (omega (arith, c .before .label2 .ensures))
+    let L = c .before .before .before in
+    let s = entered L in
+    let m = s .pre .0 in
+    search-found (patternsOf (s .args .set .now)) (made-good m) (m .filled) (s .args .node) (within s) (s .args .label) (L .loop .lo) (L .loop .hi)
+    (L .loop .inv) (omega (arith, c .before .label2 .ensures))
 
 returns-3 : tie.Need-returns-3 Inv-loop μ-loop
 returns-3 c =
-    let L = c .before .before .before .loop in
-    let s = c .before .before .before .before .before .before .before .before .before .before in
-    let ws = s .args .set .now in
-    search-missing (setOf (readSet ws)) (good-set ws (s .pre .0 .0)) (s .pre .0 .1) (s .args .node) (omega arith) (s .args .label) (L .lo) (L .hi) (L .inv) (omega arith) (λ e. c .if3 .left (omega arith))
+    let L = c .before .before .before in
+    let s = entered L in
+    let m = s .pre .0 in
+    search-missing (patternsOf (s .args .set .now)) (made-good m) (m .filled) (s .args .node) (within s) (s .args .label) (L .loop .lo) (L .loop .hi)
+    (L .loop .inv) (omega arith) (λ e. c .if3 .left (omega arith))
 
 pub child-spec : {M : Type 1} → statement M
 child-spec =

@@ -1,6 +1,6 @@
 -- `children` meets its contract: it reads the sixth word of the record.
-use Rattle.model.specs.Automaton.{recordOf}
-use borrow.Author.Needs.{needs}
+use Rattle.lists.proofs.Prelude.{needs}
+use Rattle.automaton_model.specs.Automaton.{recordOf}
 use Rattle.automaton_lookup.proofs.children.Statement.{statement}
 use Rattle.automaton_lookup.proofs.children.Tie as tie
 

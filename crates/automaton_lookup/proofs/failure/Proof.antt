@@ -1,6 +1,6 @@
 -- `failure` meets its contract: it reads the third word of the record.
-use Rattle.model.specs.Automaton.{recordOf}
-use borrow.Author.Needs.{needs}
+use Rattle.lists.proofs.Prelude.{needs}
+use Rattle.automaton_model.specs.Automaton.{recordOf}
 use Rattle.automaton_lookup.proofs.failure.Statement.{statement}
 use Rattle.automaton_lookup.proofs.failure.Tie as tie
 

@@ -1,6 +1,6 @@
 -- `first_child` meets its contract: it reads the fifth word of the record.
-use Rattle.model.specs.Automaton.{recordOf}
-use borrow.Author.Needs.{needs}
+use Rattle.lists.proofs.Prelude.{needs}
+use Rattle.automaton_model.specs.Automaton.{recordOf}
 use Rattle.automaton_lookup.proofs.first_child.Statement.{statement}
 use Rattle.automaton_lookup.proofs.first_child.Tie as tie
 

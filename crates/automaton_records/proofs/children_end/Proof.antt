@@ -1,11 +1,9 @@
 -- `children_end` meets its contract: the children of a node are nodes, so the sum is small.
-use Prim.Native.Nat.{_-_}
-use Rattle.set_access.specs.Patterns.{patternsOf}
-use Rattle.set_access.proofs.Laws.{good-set}
-use Rattle.automaton_records.proofs.Parents.{children-within}
+use Rattle.lists.proofs.Prelude.{arith, needs}
+use Rattle.pattern_set.specs.PatternSet.{patternsOf}
+use Rattle.automaton_lookup.proofs.Words.{made-good}
+use Rattle.automaton_model.proofs.Children.{children-within}
 use Rattle.automaton_records.proofs.Sizes.{nodes-small}
-use native.Mathlib.Omega.{arith}
-use borrow.Author.Needs.{needs}
 use Rattle.automaton_records.proofs.children_end.Statement.{statement}
 use Rattle.automaton_records.proofs.children_end.Tie as tie
 
@@ -19,8 +17,8 @@ add-result : tie.Need-add-result
 add-result c =
     let s = c .before .before .before .before in
     let ws = s .args .set .now in
-    let w = children-within (patternsOf ws) (good-set ws (s .pre .0 .0)) (s .pre .0 .1) (s .args .node) (omega arith) in
-    let m = nodes-small ws (s .pre .0 .0) in
+    let w = children-within (patternsOf ws) (made-good (s .pre .0)) (s .pre .0 .filled) (s .args .node) (omega arith) in
+    let m = nodes-small ws (s .pre .0 .isSet) in
     search needs
 
 returns : tie.Need-returns

@@ -1,25 +1,32 @@
--- `count_ends` meets its contract: all patterns from the first place up to i end at the node (invariant), and the one at i does exactly if it is no longer than the
--- head (`ends-more`, `ends-stop`). The measure is the number of places left.
-use mathlib.Core.Path.{_≡_, _∙_, ap}
-use Prim.Native.Nat.{ℕ, _+_, _-_, _≤_}
-use lib.ListN.{length, getD}
-use mathlib.Core.List.{[]}
-use Rattle.set_access.specs.Patterns.{patternsOf}
-use Rattle.model.specs.Automaton.{headOf, endsAt}
-use Rattle.model.proofs.Order.{order-lt}
-use Rattle.automaton_records.proofs.Shared.{patternAt}
+-- `count_ends` meets its contract: all patterns from the first place up to i end at the node
+-- (invariant), and the one at i does exactly if it is no longer than the head (`ends-more`,
+-- `ends-stop`). The measure is the number of places left.
+use Rattle.lists.proofs.Prelude.{_≡_, _∙_, ap, [], ℕ, _+_, _-_, _≤_, length, getD, arith, needs}
+use Rattle.pattern_set.specs.PatternSet.{patternsOf}
+use Rattle.automaton_model.specs.Automaton.{headOf, endsAt}
+use Rattle.automaton_model.proofs.Order.{order-lt, patternAt}
 use Rattle.automaton_records.proofs.Intervals.{ends-le-begins, ends-more, ends-stop}
 use Rattle.automaton_records.proofs.Sizes.{node-some}
-use native.Mathlib.Omega.{arith}
-use borrow.Author.Needs.{needs}
 use Rattle.automaton_records.proofs.count_ends.Statement.{statement}
 use Rattle.automaton_records.proofs.count_ends.Tie as tie
 
 abbrev Inv-loop : tie.InvT-loop
-Inv-loop set words k n place depth end i₀ i = (place ≤ i) × (i ≤ place + endsAt (patternsOf set) (headOf (patternsOf set) n))
+Inv-loop set automaton k n place depth end i₀ i = (place ≤ i) × (i ≤ place + endsAt (patternsOf set) (headOf (patternsOf set) n))
 
 abbrev μ-loop : tie.MeasureT-loop
-μ-loop set words k n place depth end i₀ i = end - i
+μ-loop set automaton k n place depth end i₀ i = end - i
+
+-- the call, from the loop
+abbrev entered : tie.At-loop Inv-loop μ-loop → tie.Start Inv-loop μ-loop
+entered c = c .before .before .before
+
+-- the pattern measured is that of place i
+measured : (c : tie.After-pattern-length Inv-loop μ-loop) →
+    let L = c .before .before .before in
+    c .pattern-length .result ≡ length (patternAt (patternsOf (entered L .args .set .now)) (L .loop .i))
+measured c =
+    let ps = patternsOf (entered (c .before .before .before) .args .set .now) in
+    c .pattern-length .ensures ∙ ap (λ (j : ℕ). length (getD ps j [])) (c .before .pattern-in-order .ensures)
 
 loop-holds : tie.Need-loop-holds Inv-loop μ-loop
 loop-holds c = search needs
@@ -27,13 +34,13 @@ loop-holds c = search needs
 pattern-in-order-requires : tie.Need-pattern-in-order-requires Inv-loop μ-loop
 pattern-in-order-requires c κs =
     let s = c .before .before .before .before in
-    let b = node-some (patternsOf (s .args .set .now)) (s .args .n) (s .pre .1 .0 .1) in
+    let b = node-some (patternsOf (s .args .set .now)) (s .args .n) (s .pre .1 .0) in
     search needs
 
 pattern-length-requires : tie.Need-pattern-length-requires Inv-loop μ-loop
 pattern-length-requires c κs =
     let s = c .before .before .before .before .before in
-    let b = node-some (patternsOf (s .args .set .now)) (s .args .n) (s .pre .1 .0 .1) in
+    let b = node-some (patternsOf (s .args .set .now)) (s .args .n) (s .pre .1 .0) in
     let o = order-lt (patternsOf (s .args .set .now)) (c .before .before .loop .i) (omega (arith, b .1)) in
     search needs
 
@@ -42,11 +49,11 @@ sub-result c = search needs
 
 returns : tie.Need-returns Inv-loop μ-loop
 returns c =
-    let L = c .before .before .before .before .loop in
-    let s = c .before .before .before .before .before .before .before in
+    let L = c .before .before .before .before in
+    let s = entered L in
     let ps = patternsOf (s .args .set .now) in
-    let q : c .before .pattern-length .result ≡ length (patternAt ps (L .i)) = c .before .pattern-length .ensures ∙ ap (λ (j : ℕ). length (getD ps j [])) (c .before .before .pattern-in-order .ensures) in
-    let e = ends-stop ps (headOf ps (s .args .n)) (L .i) (omega arith) (omega arith) (λ y. c .if1 .taken (omega arith)) in
+    let q = measured (c .before) in
+    let e = ends-stop ps (headOf ps (s .args .n)) (L .loop .i) (omega arith) (omega arith) (λ y. c .if1 .taken (omega arith)) in
     omega arith
 
 add-i : tie.Need-add-i Inv-loop μ-loop
@@ -57,11 +64,11 @@ loop-less c = search needs
 
 loop-again : tie.Need-loop-again Inv-loop μ-loop
 loop-again c =
-    let L = c .before .before .before .before .loop in
-    let s = c .before .before .before .before .before .before .before in
+    let L = c .before .before .before .before in
+    let s = entered L in
     let ps = patternsOf (s .args .set .now) in
-    let q : c .before .pattern-length .result ≡ length (patternAt ps (L .i)) = c .before .pattern-length .ensures ∙ ap (λ (j : ℕ). length (getD ps j [])) (c .before .before .pattern-in-order .ensures) in
-    let m = ends-more ps (headOf ps (s .args .n)) (L .i) (omega arith) (omega arith) (omega (arith, c .if1 .left)) in
+    let q = measured (c .before) in
+    let m = ends-more ps (headOf ps (s .args .n)) (L .loop .i) (omega arith) (omega arith) (omega (arith, c .if1 .left)) in
     (omega arith, omega arith)
 
 sub-result-2 : tie.Need-sub-result-2 Inv-loop μ-loop

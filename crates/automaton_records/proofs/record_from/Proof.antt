@@ -1,6 +1,5 @@
 -- `record_from` meets its contract: each number is a word.
-use mathlib.Core.List.{[], _∷_}
-use borrow.Author.Needs.{needs}
+use Rattle.lists.proofs.Prelude.{[], _∷_, needs}
 use Rattle.automaton_records.proofs.record_from.Statement.{statement}
 use Rattle.automaton_records.proofs.record_from.Tie as tie
 
@@ -27,8 +26,23 @@ word-requires-7 c κs = search needs
 
 returns : tie.Need-returns
 returns c =
-    let w = c .before in
-    λ i. w .before .before .before .before .before .word .ensures i ∷ w .before .before .before .before .before .before .args .label ∷ w .before .before .before .before .word2 .ensures i ∷ w .before .before .before .word3 .ensures i ∷ w .before .before .word4 .ensures i ∷ w .before .word5 .ensures i ∷ w .word6 .ensures i ∷ c .word7 .ensures i ∷ []
+    let i = c .before in
+    let h = i .before in
+    let g = h .before in
+    let f = g .before in
+    let e = f .before in
+    let d = e .before in
+    let s = d .before in
+    λ j.
+    d .word .ensures j
+    ∷ s .args .label
+    ∷ e .word2 .ensures j
+    ∷ f .word3 .ensures j
+    ∷ g .word4 .ensures j
+    ∷ h .word5 .ensures j
+    ∷ i .word6 .ensures j
+    ∷ c .word7 .ensures j
+    ∷ []
 
 pub record-from-spec : {M : Type 1} → statement M
 record-from-spec = tie.close (tie.spec word-requires word-requires-2 word-requires-3 word-requires-4 word-requires-5 word-requires-6 word-requires-7 returns)

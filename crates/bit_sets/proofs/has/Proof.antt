@@ -1,6 +1,6 @@
 -- The digit is the lowest of the number shifted down.
+use Rattle.lists.proofs.Prelude.{needs}
 use Rattle.bit_sets.proofs.Laws.{has-is}
-use borrow.Author.Needs.{needs}
 use Rattle.bit_sets.proofs.has.Statement.{statement}
 use Rattle.bit_sets.proofs.has.Tie as tie
 

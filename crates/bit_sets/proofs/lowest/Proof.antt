@@ -1,6 +1,6 @@
 -- The zeros below the lowest digit that is 1 are as many as its place, which is the first member.
-use native.Mathlib.Omega.{arith}
 use lib.Count.{trailing-le}
+use Rattle.lists.proofs.Prelude.{arith}
 use Rattle.bit_sets.proofs.Laws.{lowest-is}
 use Rattle.bit_sets.proofs.lowest.Statement.{statement}
 use Rattle.bit_sets.proofs.lowest.Tie as tie

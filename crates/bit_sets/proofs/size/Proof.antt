@@ -1,6 +1,6 @@
 -- The members are as many as the digits that are 1, and those are at most 64.
-use native.Mathlib.Omega.{arith}
 use lib.Count.{ones-le}
+use Rattle.lists.proofs.Prelude.{arith}
 use Rattle.bit_sets.proofs.Laws.{size-is}
 use Rattle.bit_sets.proofs.size.Statement.{statement}
 use Rattle.bit_sets.proofs.size.Tie as tie

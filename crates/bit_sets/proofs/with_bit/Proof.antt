@@ -1,7 +1,6 @@
 -- 1 shifted up has the one digit i, and an or has the digits of both.
-use native.Mathlib.Omega.{arith}
+use Rattle.lists.proofs.Prelude.{arith, needs}
 use Rattle.bit_sets.proofs.Laws.{with-bit-is}
-use borrow.Author.Needs.{needs}
 use Rattle.bit_sets.proofs.with_bit.Statement.{statement}
 use Rattle.bit_sets.proofs.with_bit.Tie as tie
 

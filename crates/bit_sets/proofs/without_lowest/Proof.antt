@@ -1,7 +1,6 @@
 -- m and m - 1 differ in the lowest digit of m that is 1 and in those below it, which are 0 in m.
-use native.Mathlib.Omega.{arith}
+use Rattle.lists.proofs.Prelude.{arith, needs}
 use Rattle.bit_sets.proofs.Laws.{without-lowest-is}
-use borrow.Author.Needs.{needs}
 use Rattle.bit_sets.proofs.without_lowest.Statement.{statement}
 use Rattle.bit_sets.proofs.without_lowest.Tie as tie
 

@@ -1,8 +1,6 @@
 -- `below_zero` is safe.
-use mir.Syntax.{w32}
-use mir.ValLaws.{toZ-pos}
-use Rattle.case_input.proofs.Numbers.{minus-one-less}
-use borrow.Author.Needs.{needs}
+use Rattle.lists.proofs.Prelude.{w32, toZ-pos, needs}
+use Rattle.hits_input.proofs.Numbers.{minus-one-less}
 use Rattle.case_input.proofs.below_zero.Statement.{statement}
 use Rattle.case_input.proofs.below_zero.Tie as tie
 

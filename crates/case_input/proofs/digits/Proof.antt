@@ -1,8 +1,5 @@
--- `digits` meets its contract: the place starts at `from` and only rises, to the length of the input; the size grows only below 10^18, so it
--- stays below 2^64.
-use Prim.Native.Nat.{_≤_, _-_}
-use lib.ListN.{length}
-use borrow.Author.Needs.{needs}
+-- `digits` meets its contract: the place only rises; the size grows only where it stays below 2^64.
+use Rattle.lists.proofs.Prelude.{_-_, _≤_, length, needs}
 use Rattle.case_input.proofs.digits.Statement.{statement}
 use Rattle.case_input.proofs.digits.Tie as tie
 
@@ -20,6 +17,9 @@ shared-slice-read-digit c = search needs
 
 digit-requires : tie.Need-digit-requires Inv-loop μ-loop
 digit-requires c κs = search needs
+
+sub-if2 : tie.Need-sub-if2 Inv-loop μ-loop
+sub-if2 c = search needs
 
 mul-size : tie.Need-mul-size Inv-loop μ-loop
 mul-size c = search needs
@@ -51,6 +51,7 @@ digits-spec =
     loop-holds
     shared-slice-read-digit
     digit-requires
+    sub-if2
     mul-size
     add-size
     add-i

@@ -1,7 +1,6 @@
--- `skip` meets its contract: the place starts at `from`, and only rises, to the length of the input.
-use Prim.Native.Nat.{_≤_, _-_}
-use lib.ListN.{length}
-use borrow.Author.Needs.{needs}
+-- `skip` meets its contract: the place starts at `from`, and only rises, to the length of the
+-- input.
+use Rattle.lists.proofs.Prelude.{_-_, _≤_, length, needs}
 use Rattle.case_input.proofs.skip.Statement.{statement}
 use Rattle.case_input.proofs.skip.Tie as tie
 

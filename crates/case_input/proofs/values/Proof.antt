@@ -1,9 +1,6 @@
--- `values` meets its contract: each number ends at or behind the place where it is looked for; the array keeps its length, so every place
--- below it can be written.
-use mathlib.Core.Path.{_≡_}
-use Prim.Native.Nat.{_≤_, _-_}
-use lib.ListN.{length}
-use borrow.Author.Needs.{needs}
+-- `values` meets its contract: each number ends at or behind the place where it is looked for; the
+-- array keeps its length, so every place below it can be written.
+use Rattle.lists.proofs.Prelude.{_≡_, _-_, _≤_, length, needs}
 use Rattle.case_input.proofs.values.Statement.{statement}
 use Rattle.case_input.proofs.values.Tie as tie
 

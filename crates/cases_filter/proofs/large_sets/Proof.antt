@@ -1,14 +1,13 @@
 -- `large_sets` is safe and ends.
-use Prim.Native.Nat.{_≤_, _-_}
-use borrow.Author.Needs.{needs}
+use Rattle.lists.proofs.Prelude.{_-_, _≤_, needs}
 use Rattle.cases_filter.proofs.large_sets.Statement.{statement}
 use Rattle.cases_filter.proofs.large_sets.Tie as tie
 
 abbrev Inv-loop : tie.InvT-loop
-Inv-loop n t₀ i₀ t i = i ≤ n
+Inv-loop group n t₀ i₀ t i = i ≤ n
 
 abbrev μ-loop : tie.MeasureT-loop
-μ-loop n t₀ i₀ t i = n - i
+μ-loop group n t₀ i₀ t i = n - i
 
 none-requires : tie.Need-none-requires Inv-loop μ-loop
 none-requires c κs = search needs
@@ -19,8 +18,8 @@ loop-holds c = search needs
 large-case-requires : tie.Need-large-case-requires Inv-loop μ-loop
 large-case-requires c κs = search needs
 
-count-requires : tie.Need-count-requires Inv-loop μ-loop
-count-requires c κs = search needs
+numbered-requires : tie.Need-numbered-requires Inv-loop μ-loop
+numbered-requires c κs = search needs
 
 add-i : tie.Need-add-i Inv-loop μ-loop
 add-i c = search needs
@@ -30,6 +29,9 @@ loop-less c = search needs
 
 loop-again : tie.Need-loop-again Inv-loop μ-loop
 loop-again c = search needs
+
+report-requires : tie.Need-report-requires Inv-loop μ-loop
+report-requires c κs = search needs
 
 returns : tie.Need-returns Inv-loop μ-loop
 returns c = search needs
@@ -43,8 +45,9 @@ large-sets-spec =
     none-requires
     loop-holds
     large-case-requires
-    count-requires
+    numbered-requires
     add-i
     loop-less
     loop-again
+    report-requires
     returns)

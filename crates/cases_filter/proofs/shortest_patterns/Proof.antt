@@ -1,14 +1,13 @@
 -- `shortest_patterns` is safe and ends.
-use Prim.Native.Nat.{_≤_, _-_}
-use borrow.Author.Needs.{needs}
+use Rattle.lists.proofs.Prelude.{_-_, _≤_, needs}
 use Rattle.cases_filter.proofs.shortest_patterns.Statement.{statement}
 use Rattle.cases_filter.proofs.shortest_patterns.Tie as tie
 
 abbrev Inv-loop : tie.InvT-loop
-Inv-loop n m t₀ i₀ t i = i ≤ n
+Inv-loop group n m t₀ i₀ t i = i ≤ n
 
 abbrev μ-loop : tie.MeasureT-loop
-μ-loop n m t₀ i₀ t i = n - i
+μ-loop group n m t₀ i₀ t i = n - i
 
 none-requires : tie.Need-none-requires Inv-loop μ-loop
 none-requires c κs = search needs
@@ -19,8 +18,8 @@ loop-holds c = search needs
 length-case-requires : tie.Need-length-case-requires Inv-loop μ-loop
 length-case-requires c κs = search needs
 
-count-requires : tie.Need-count-requires Inv-loop μ-loop
-count-requires c κs = search needs
+numbered-requires : tie.Need-numbered-requires Inv-loop μ-loop
+numbered-requires c κs = search needs
 
 add-i : tie.Need-add-i Inv-loop μ-loop
 add-i c = search needs
@@ -43,7 +42,7 @@ shortest-patterns-spec =
     none-requires
     loop-holds
     length-case-requires
-    count-requires
+    numbered-requires
     add-i
     loop-less
     loop-again

@@ -1,7 +1,5 @@
 -- `case` is safe and ends.
-use native.Mathlib.Omega.{arith}
-use lib.ListN.{length-take}
-use borrow.Author.Needs.{needs}
+use Rattle.lists.proofs.Prelude.{length-take, arith, needs}
 use Rattle.cases_hits.proofs.case.Statement.{statement}
 use Rattle.cases_hits.proofs.case.Tie as tie
 

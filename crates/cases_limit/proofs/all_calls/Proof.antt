@@ -1,23 +1,25 @@
 -- `all_calls` is safe and ends.
-use Prim.Native.Nat.{_≤_, _-_}
-use borrow.Author.Needs.{needs}
+use Rattle.lists.proofs.Prelude.{_-_, _≤_, needs}
 use Rattle.cases_limit.proofs.all_calls.Statement.{statement}
 use Rattle.cases_limit.proofs.all_calls.Tie as tie
 
 abbrev Inv-loop : tie.InvT-loop
-Inv-loop set automaton text s₀ good₀ i₀ s good i = i ≤ 256
+Inv-loop set automaton text r₀ i₀ r i = i ≤ 256
 
 abbrev μ-loop : tie.MeasureT-loop
-μ-loop set automaton text s₀ good₀ i₀ s good i = 256 - i
+μ-loop set automaton text r₀ i₀ r i = 256 - i
 
 new-requires : tie.Need-new-requires Inv-loop μ-loop
 new-requires c κs = search needs
 
+none-requires : tie.Need-none-requires Inv-loop μ-loop
+none-requires c κs = search needs
+
 loop-holds : tie.Need-loop-holds Inv-loop μ-loop
 loop-holds c = search needs
 
-next-call-requires : tie.Need-next-call-requires Inv-loop μ-loop
-next-call-requires c κs = search needs
+call-after-requires : tie.Need-call-after-requires Inv-loop μ-loop
+call-after-requires c κs = search needs
 
 add-i : tie.Need-add-i Inv-loop μ-loop
 add-i c = search needs
@@ -38,8 +40,9 @@ all-calls-spec =
     Inv-loop
     μ-loop
     new-requires
+    none-requires
     loop-holds
-    next-call-requires
+    call-after-requires
     add-i
     loop-less
     loop-again

@@ -1,6 +1,6 @@
--- `not_above` meets its contract: the comparison of two elements is that of the values they stand for. The file is here so that an edit of the
--- comparison is refused at `returns`.
-use borrow.Author.Needs.{needs}
+-- `not_above` meets its contract: the comparison of two elements is that of the values they stand
+-- for. The file is here so that an edit of the comparison is refused at `returns`.
+use Rattle.lists.proofs.Prelude.{needs}
 use Rattle.compute_distances.proofs.not_above.Statement.{statement}
 use Rattle.compute_distances.proofs.not_above.Tie as tie
 

@@ -1,17 +1,10 @@
--- `parent_distances` meets its contract: before each turn the first i words of `out` are the distances of the first i values, and the rest is as it was.
-use Prim.Native.Nat.{ℕ, _≤_, _-_}
-use mathlib.Core.Path.{_≡_, refl, ap, _∙_}
-use mathlib.Core.List.{List, _++_}
-use mathlib.Core.Logic.{⊎-elim}
-use lib.ListN.{length, drop, take, set, getD, length-set}
-use lib.Seq.{take-at}
-use lib.IntN.{pos}
-use Rattle.lists.specs.Prelude.{tabulate}
-use Rattle.lists.proofs.Lists.{tabulate-more, length-tabulate}
+-- `parent_distances` meets its contract: before each turn the first i words of `out` are the
+-- distances of the first i values, and the rest is as it was.
+use Rattle.lists.proofs.Prelude.{_≡_, _∙_, ap, refl, ⊎-elim, List, _++_, ℕ, _-_, _≤_, pos, length, getD, take, drop, set, length-set, take-at, arith, needs}
+use Rattle.lists.proofs.Prelude.{tabulate}
+use Rattle.lists.proofs.Tables.{tabulate-more, length-tabulate}
 use Rattle.cartesian.specs.Cartesian.{distanceAt, distances}
 use Rattle.cartesian.proofs.Seek.{seek-le, dist-none, dist-some}
-use native.Mathlib.Omega.{arith}
-use borrow.Author.Needs.{needs}
 use Rattle.compute_distances.proofs.parent_distances.Statement.{statement}
 use Rattle.compute_distances.proofs.parent_distances.Tie as tie
 
@@ -29,7 +22,8 @@ seek-parent-requires : tie.Need-seek-parent-requires Inv-loop μ-loop
 seek-parent-requires c κs =
     let L = c .before .before .loop in
     let values = c .before .before .before .before .args .values .now in
-    ((omega arith, omega arith), ap (take (L .i)) (L .inv .2) ∙ take-at (tabulate (L .i) (distanceAt values)) _ (L .i) (length-tabulate (L .i) (distanceAt values)))
+    let front = take-at (tabulate (L .i) (distanceAt values)) _ (L .i) (length-tabulate (L .i) (distanceAt values)) in
+    ((omega arith, omega arith), ap (take (L .i)) (L .inv .2) ∙ front)
 
 mul-out : tie.Need-mul-out Inv-loop μ-loop
 mul-out c = search needs

@@ -1,16 +1,11 @@
--- `seek_parent` meets its contract: the parent sought is found below i exactly if it is found below k. A place above the value at i has its parent, and all
--- between the two, out of the search, and its distance is what `out` has there.
-use Prim.Native.Nat.{_≤_, _-_}
-use mathlib.Core.Path.{_≡_, sym, _∙_}
-use lib.ListN.{getD}
-use lib.IntN.{pos}
-use lib.Signed.{leZ}
-use Rattle.lists.proofs.Lists.{lastBelow-yes, lastBelow-end}
+-- `seek_parent` meets its contract: the parent sought is found below i exactly if it is found below
+-- k. A place above the value at i has its parent, and all between the two, out of the search, and
+-- its distance is what `out` has there.
+use Rattle.lists.proofs.Prelude.{_≡_, _∙_, sym, _-_, _≤_, pos, leZ, getD, arith, needs}
+use Rattle.lists.proofs.LastBelow.{lastBelow-yes, lastBelow-end}
+use Rattle.lists.proofs.Tables.{filled-at}
 use Rattle.cartesian.specs.Cartesian.{seek, distanceAt}
 use Rattle.cartesian.proofs.Seek.{jump-none, jump-some, distance-le}
-use Rattle.compute_distances.proofs.Laws.{filled}
-use native.Mathlib.Omega.{arith}
-use borrow.Author.Needs.{needs}
 use Rattle.compute_distances.proofs.seek_parent.Statement.{statement}
 use Rattle.compute_distances.proofs.seek_parent.Tie as tie
 
@@ -21,10 +16,19 @@ abbrev μ-loop : tie.MeasureT-loop
 μ-loop values out i k₀ k = k
 
 -- what was read is the distance at its place
-linked : (c : tie.After-wide Inv-loop μ-loop) → c .wide .result ≡ distanceAt (c .before .before .before .before .before .before .before .args .values .now) (c .before .before .before .before .before .loop .k - 1)
+linked : (c : tie.After-wide Inv-loop μ-loop) →
+    let L = c .before .before .before .before .before in
+    c .wide .result ≡ distanceAt (L .before .before .args .values .now) (L .loop .k - 1)
 linked c =
-    let st = c .before .before .before .before .before .before .before in
-    c .wide .ensures ∙ filled (st .args .values .now) (st .args .out .now) (st .args .i) (c .before .before .before .before .before .loop .k - 1) (st .pre .1) (omega arith)
+    let L = c .before .before .before .before .before in
+    let st = L .before .before in
+    c .wide .ensures ∙ filled-at 0 (distanceAt (st .args .values .now)) (st .args .out .now) (st .args .i) (L .loop .k - 1) (st .pre .1) (omega arith)
+
+-- and leads to a place of the array
+linked-le : (c : tie.After-wide Inv-loop μ-loop) → c .wide .result ≤ c .before .before .before .before .before .loop .k - 1
+linked-le c =
+    let L = c .before .before .before .before .before in
+    omega (arith, linked c, distance-le (L .before .before .args .values .now) (L .loop .k - 1))
 
 loop-holds : tie.Need-loop-holds Inv-loop μ-loop
 loop-holds c = search needs
@@ -39,7 +43,8 @@ returns : tie.Need-returns Inv-loop μ-loop
 returns c =
     let st = c .before .before .before .before .before in
     let values = st .args .values .now in
-    lastBelow-yes (λ j. leZ (getD values j (pos 0)) (getD values (st .args .i) (pos 0))) _ (c .before .before .loop-test .taken) (sym (c .before .not-above .ensures) ∙ c .if1 .taken)
+    lastBelow-yes (λ j. leZ (getD values j (pos 0)) (getD values (st .args .i) (pos 0))) _ (c .before .before .loop-test .taken)
+    (sym (c .before .not-above .ensures) ∙ c .if1 .taken)
     ∙ sym (c .before .before .before .loop .inv .1)
 
 mul-wide : tie.Need-mul-wide Inv-loop μ-loop
@@ -53,21 +58,25 @@ wide-requires c κs = search needs
 
 returns-2 : tie.Need-returns-2 Inv-loop μ-loop
 returns-2 c =
-    jump-none _ _ _ _ (c .before .before .before .before .before .loop-test .taken) (sym (c .before .before .before .before .not-above .ensures) ∙ c .before .before .before .if1 .left) (linked (c .before)) (c .if2 .taken)
-    ∙ sym (c .before .before .before .before .before .before .loop .inv .1)
+    let above = c .before .before .before in
+    let turn = above .before .before in
+    jump-none _ _ _ _ (turn .loop-test .taken) (sym (above .before .not-above .ensures) ∙ above .if1 .left) (linked (c .before)) (c .if2 .taken)
+    ∙ sym (turn .before .loop .inv .1)
 
 sub-k : tie.Need-sub-k Inv-loop μ-loop
-sub-k c = omega (arith, linked (c .before), distance-le (c .before .before .before .before .before .before .before .before .args .values .now) (c .before .before .before .before .before .before .loop .k - 1))
+sub-k c = omega (arith, linked-le (c .before))
 
 loop-less : tie.Need-loop-less Inv-loop μ-loop
-loop-less c = omega (arith, c .if2 .left, linked (c .before), distance-le (c .before .before .before .before .before .before .before .before .args .values .now) (c .before .before .before .before .before .before .loop .k - 1))
+loop-less c = omega (arith, c .if2 .left, linked-le (c .before))
 
 loop-again : tie.Need-loop-again Inv-loop μ-loop
-loop-again c = (
-  omega arith,
-  c .before .before .before .before .before .before .loop .inv .1
-      ∙ jump-some _ _ _ _ (c .before .before .before .before .before .loop-test .taken) (sym (c .before .before .before .before .not-above .ensures) ∙ c .before .before .before .if1 .left) (linked (c .before)) (c .if2 .left),
-)
+loop-again c =
+    let above = c .before .before .before in
+    let turn = above .before .before in (
+      omega arith,
+      turn .before .loop .inv .1
+          ∙ jump-some _ _ _ _ (turn .loop-test .taken) (sym (above .before .not-above .ensures) ∙ above .if1 .left) (linked (c .before)) (c .if2 .left),
+    )
 
 returns-3 : tie.Need-returns-3 Inv-loop μ-loop
 returns-3 c =

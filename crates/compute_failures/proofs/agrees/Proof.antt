@@ -1,6 +1,7 @@
--- `agrees` meets its contract: a distance of at most m stays in the window of m + 1 values, and a longer one is cut to 0.
+-- `agrees` meets its contract: a distance of at most m stays in the window of m + 1 values, and a
+-- longer one is cut to 0.
+use Rattle.lists.proofs.Prelude.{needs}
 use Rattle.compute_failures.proofs.Laws.{agrees-inside, agrees-outside}
-use borrow.Author.Needs.{needs}
 use Rattle.compute_failures.proofs.agrees.Statement.{statement}
 use Rattle.compute_failures.proofs.agrees.Tie as tie
 

@@ -1,16 +1,9 @@
--- `failure_lengths` meets its contract: before each turn the first i words of `out` are the failure lengths of the heads of 1 to i distances, and the
--- rest is as it was.
-use Prim.Native.Nat.{ℕ, suc, _≤_, _-_}
-use mathlib.Core.Path.{_≡_, ap, _∙_}
-use mathlib.Core.List.{List, _++_}
-use lib.ListN.{length, drop, take, set, length-set}
-use lib.Seq.{take-at}
-use Rattle.lists.specs.Prelude.{tabulate}
-use Rattle.lists.proofs.Lists.{tabulate-more, length-tabulate}
+-- `failure_lengths` meets its contract: before each turn the first i words of `out` are the failure
+-- lengths of the heads of 1 to i distances, and the rest is as it was.
+use Rattle.lists.proofs.Prelude.{_≡_, _∙_, ap, List, _++_, ℕ, suc, _-_, _≤_, length, take, drop, set, length-set, take-at, arith, needs, tabulate}
+use Rattle.lists.proofs.Tables.{tabulate-more, length-tabulate}
 use Rattle.realization.specs.Realization.{failureLength, failureLengths}
 use Rattle.compute_failures.proofs.Laws.{failure-lt}
-use native.Mathlib.Omega.{arith}
-use borrow.Author.Needs.{needs}
 use Rattle.compute_failures.proofs.failure_lengths.Statement.{statement}
 use Rattle.compute_failures.proofs.failure_lengths.Tie as tie
 
@@ -55,7 +48,8 @@ loop-again c =
     let rule : ℕ → ℕ = λ j. failureLength (st .args .ds .now) (suc j) in (
       omega arith,
       length-set (L .out) (L .i) (c .next-length .result) ∙ L .inv .1,
-      ap (λ (z : List ℕ). set z (L .i) (c .next-length .result)) (L .inv .2) ∙ tabulate-more rule 0 (st .args .out .now) (L .i) _ (omega arith) (c .next-length .ensures),
+      ap (λ (z : List ℕ). set z (L .i) (c .next-length .result)) (L .inv .2)
+          ∙ tabulate-more rule 0 (st .args .out .now) (L .i) _ (omega arith) (c .next-length .ensures),
     )
 
 same-length : tie.Need-same-length Inv-loop μ-loop

@@ -1,11 +1,10 @@
--- `next_length` meets its contract: m is always the length of a tail that fits, and no longer one leads to the answer (`Candidate`).
--- The next shorter such tail is the longest of this tail itself, which `out` has. The measure is m.
-use mathlib.Core.Path.{_≡_, sym, _∙_}
-use Rattle.lists.proofs.Order.{T-true}
+-- `next_length` meets its contract: m is always the length of a tail that fits, and no longer one
+-- leads to the answer (`Candidate`). The next shorter such tail is the longest of this tail itself,
+-- which `out` has. The measure is m.
+use Rattle.lists.proofs.Prelude.{_≡_, _∙_, sym, arith, needs}
+use Rattle.lists.proofs.Tests.{T-true}
 use Rattle.realization.specs.Realization.{realizable, failureLength}
 use Rattle.compute_failures.proofs.Laws.{Candidate, search-one, search-first, search-yes, search-no, search-end, failure-lt, filled}
-use native.Mathlib.Omega.{arith}
-use borrow.Author.Needs.{needs}
 use Rattle.compute_failures.proofs.next_length.Statement.{statement}
 use Rattle.compute_failures.proofs.next_length.Tie as tie
 
@@ -16,18 +15,25 @@ abbrev μ-loop : tie.MeasureT-loop
 μ-loop ds out i m₀ m = m
 
 -- what was read before the loop is the failure length of the head of i values
-read-first : (c : tie.After-wide Inv-loop μ-loop) → c .wide .result ≡ failureLength (c .before .before .before .before .before .args .ds .now) (c .before .before .before .before .before .args .i)
+read-first : (c : tie.After-wide Inv-loop μ-loop) →
+    let a = c .before .before .before .before .before .args in
+    c .wide .result ≡ failureLength (a .ds .now) (a .i)
 read-first c =
     let st = c .before .before .before .before .before in
     let h = c .before .before .if1 .left in
     c .wide .ensures ∙ filled (st .args .ds .now) (st .args .out .now) (st .args .i) (st .args .i) (st .pre .1 .1) (omega arith) (omega arith)
 
 -- and what a turn reads is that of the head of m values
-read-next : (c : tie.After-wide2 Inv-loop μ-loop) → c .wide2 .result ≡ failureLength (c .before .before .before .before .before .before .before .before .before .before .before .args .ds .now) (c .before .before .before .before .before .loop .m)
+read-next : (c : tie.After-wide2 Inv-loop μ-loop) →
+    let turn = c .before .before .before .before in
+    let a = turn .before .before .before .before .before .before .before .args in
+    c .wide2 .result ≡ failureLength (a .ds .now) (turn .before .loop .m)
 read-next c =
-    let st = c .before .before .before .before .before .before .before .before .before .before .before in
-    let L = c .before .before .before .before .before .loop in
-    c .wide2 .ensures ∙ filled (st .args .ds .now) (st .args .out .now) (st .args .i) (L .m) (st .pre .1 .1) (c .before .before .before .before .loop-test .taken) (omega (arith, L .inv .proper))
+    let turn = c .before .before .before .before in
+    let st = turn .before .before .before .before .before .before .before in
+    let L = turn .before .loop in
+    c .wide2 .ensures
+    ∙ filled (st .args .ds .now) (st .args .out .now) (st .args .i) (L .m) (st .pre .1 .1) (turn .loop-test .taken) (omega (arith, L .inv .proper))
 
 returns : tie.Need-returns Inv-loop μ-loop
 returns c = search-one (c .before .before .before .args .ds .now) (c .before .before .before .args .i) (c .if1 .taken)
@@ -60,7 +66,8 @@ returns-2 : tie.Need-returns-2 Inv-loop μ-loop
 returns-2 c =
     let st = c .before .before .before .before .before .before .before .before .before in
     let ds = st .args .ds .now in
-    search-yes ds (st .args .i) (c .before .before .before .loop .m) (T-true (realizable ds) (st .pre .1 .0)) (st .pre .0 .0) (c .before .before .before .loop .inv) (sym (c .before .agrees .ensures) ∙ c .if2 .taken)
+    search-yes ds (st .args .i) (c .before .before .before .loop .m) (T-true (realizable ds) (st .pre .1 .0)) (st .pre .0 .0)
+    (c .before .before .before .loop .inv) (sym (c .before .agrees .ensures) ∙ c .if2 .taken)
 
 sub-wide-2 : tie.Need-sub-wide-2 Inv-loop μ-loop
 sub-wide-2 c = search needs
@@ -76,16 +83,19 @@ wide-requires-2 c κs = search needs
 
 loop-less : tie.Need-loop-less Inv-loop μ-loop
 loop-less c =
-    let st = c .before .before .before .before .before .before .before .before .before .before .before in
-    omega (arith, read-next c, failure-lt (st .args .ds .now) (c .before .before .before .before .before .loop .m) (c .before .before .before .before .loop-test .taken))
+    let turn = c .before .before .before .before in
+    let ds = turn .before .before .before .before .before .before .before .args .ds .now in
+    omega (arith, read-next c, failure-lt ds (turn .before .loop .m) (turn .loop-test .taken))
 
 loop-again : tie.Need-loop-again Inv-loop μ-loop
 loop-again c =
-    let st = c .before .before .before .before .before .before .before .before .before .before .before in
+    let turn = c .before .before .before .before in
+    let st = turn .before .before .before .before .before .before .before in
     let ds = st .args .ds .now in
-    let L = c .before .before .before .before .before .loop in
+    let L = turn .before .loop in
     rw (read-next c)
-    (search-no ds (st .args .i) (L .m) (T-true (realizable ds) (st .pre .1 .0)) (st .pre .0 .0) (c .before .before .before .before .loop-test .taken) (L .inv) (sym (c .before .before .before .agrees .ensures) ∙ c .before .before .if2 .left))
+    (search-no ds (st .args .i) (L .m) (T-true (realizable ds) (st .pre .1 .0)) (st .pre .0 .0) (turn .loop-test .taken) (L .inv)
+    (sym (c .before .before .before .agrees .ensures) ∙ c .before .before .if2 .left))
 
 returns-3 : tie.Need-returns-3 Inv-loop μ-loop
 returns-3 c =

@@ -1,8 +1,6 @@
--- `add_place` meets its contract: an empty left part has no prefix child, and in any other the walk finds it.
-use native.Mathlib.Omega.{arith}
-use borrow.Author.Needs.{needs}
-use Prim.Native.Nat.{_<_}
-use lib.ListN.{length-set}
+-- `add_place` meets its contract: an empty left part has no prefix child, and in any other the walk
+-- finds it.
+use Rattle.lists.proofs.Prelude.{_<_, length-set, arith, needs}
 use Rattle.compute_parents.specs.Steps.{isRootFrom}
 use Rattle.compute_parents.proofs.Walk.{link-le, found-lt, start-le}
 use Rattle.compute_parents.proofs.Steps.{stored-alone, stored-child}
@@ -54,8 +52,10 @@ same-length c = simp length-set
 returns : tie.Need-returns
 returns c =
     let b = c .before .before .before .before .before .before in
-    stored-child (b .args .ds .now) (b .args .j) (b .args .out .now) (c .before .before .before .link .result) (c .before .before .left-start .result) (c .prefix-child .result)
-    (b .pre .0) (b .pre .1 .0) (c .before .before .before .link .ensures) (c .before .before .left-start .ensures) (c .before .if1 .taken) (c .prefix-child .ensures)
+    let start = c .before .before .left-start in
+    let link = c .before .before .before .link in
+    stored-child (b .args .ds .now) (b .args .j) (b .args .out .now) (link .result) (start .result) (c .prefix-child .result)
+    (b .pre .0) (b .pre .1 .0) (link .ensures) (start .ensures) (c .before .if1 .taken) (c .prefix-child .ensures)
 
 same-length-2 : tie.Need-same-length-2
 same-length-2 c = search needs

@@ -1,9 +1,6 @@
--- `global_parents` meets its contract: before place j the array holds the parents as the places before j tell them, and what is behind j as it was.
-use native.Mathlib.Omega.{arith}
-use borrow.Author.Needs.{needs}
-use Prim.Native.Nat.{_≤_, _+_, _-_}
-use mathlib.Core.Path.{_≡_, refl, _∙_, ap}
-use lib.ListN.{length}
+-- `global_parents` meets its contract: before place j the array holds the parents as the places
+-- before j tell them, and what is behind j as it was.
+use Rattle.lists.proofs.Prelude.{_≡_, _∙_, ap, refl, _+_, _-_, _≤_, length, arith, needs}
 use Rattle.compute_parents.specs.Steps.{withPlace}
 use Rattle.compute_parents.proofs.Steps.{parentsBelow, parents-none, length-parentsBelow, place-more, parents-all}
 use Rattle.compute_parents.proofs.global_parents.Statement.{statement}
@@ -16,7 +13,9 @@ abbrev μ-loop : tie.MeasureT-loop
 μ-loop ds out₀ n j₀ out j = n - j
 
 loop-holds : tie.Need-loop-holds Inv-loop μ-loop
-loop-holds c = (omega arith, refl, parents-none (c .before .before .args .ds .now) (c .before .before .args .out .now))
+loop-holds c =
+    let a = c .before .before .args in
+    (omega arith, refl, parents-none (a .ds .now) (a .out .now))
 
 add-place-requires : tie.Need-add-place-requires Inv-loop μ-loop
 add-place-requires c κs = (c .before .before .before .before .before .pre .0, omega arith)
@@ -33,7 +32,9 @@ loop-again c =
     let L = c .before .before .before .before .before .loop in
     let d = b .args .out .now in
     let o : c .before .before .add-place .last .1 .1 .0 ≡ parentsBelow (b .args .ds .now) (L .j + 1) d =
-    c .before .before .add-place .ensures ∙ ap (withPlace (b .args .ds .now) (L .j)) (L .inv .2) ∙ place-more (b .args .ds .now) (L .j) d (b .pre .0) (omega arith) (omega arith) in
+    c .before .before .add-place .ensures
+    ∙ ap (withPlace (b .args .ds .now) (L .j)) (L .inv .2)
+    ∙ place-more (b .args .ds .now) (L .j) d (b .pre .0) (omega arith) (omega arith) in
     (omega arith, ap length o ∙ length-parentsBelow (b .args .ds .now) (L .j + 1) d (omega arith), o)
 
 same-length : tie.Need-same-length Inv-loop μ-loop

@@ -1,5 +1,6 @@
--- `left_start` meets its contract: a distance of 0 leads nowhere, so the part begins at 0; any other leads to j less the distance, and the part begins one place on.
-use borrow.Author.Needs.{needs}
+-- `left_start` meets its contract: a distance of 0 leads nowhere, so the part begins at 0; any
+-- other leads to j less the distance, and the part begins one place on.
+use Rattle.lists.proofs.Prelude.{needs}
 use Rattle.compute_parents.proofs.Walk.{start-none, start-some}
 use Rattle.compute_parents.proofs.left_start.Statement.{statement}
 use Rattle.compute_parents.proofs.left_start.Tie as tie

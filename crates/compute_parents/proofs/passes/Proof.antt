@@ -1,11 +1,6 @@
--- `passes` meets its contract: the loop keeps that all places before i pass, so the first place that fails, or the end, decides.
-use native.Mathlib.Omega.{arith}
-use borrow.Author.Needs.{needs}
-use Prim.Native.Nat.{_≤_, _-_}
-use mathlib.Core.Path.{_≡_, sym, _∙_}
-use lib.ListN.{getD}
-use borrow.Author.Tests.{not-true, not-false}
-use borrow.Author.Count.{below-more}
+-- `passes` meets its contract: the loop keeps that all places before i pass, so the first place
+-- that fails, or the end, decides.
+use Rattle.lists.proofs.Prelude.{_≡_, _∙_, sym, _-_, _≤_, getD, arith, not-false, not-true, below-more, needs}
 use Rattle.global_parents.specs.Passes.{passesAt}
 use Rattle.compute_parents.proofs.WindowCheck.{PassBelow, check-passes, check-fails}
 use Rattle.compute_parents.proofs.passes.Statement.{statement}
@@ -18,7 +13,10 @@ abbrev μ-loop : tie.MeasureT-loop
 μ-loop parents window n i₀ i = n - i
 
 -- what was compared is the place's value with that of its parent
-compared : (c : tie.After-passes-at Inv-loop μ-loop) → passesAt (c .before .before .before .before .before .before .args .window .now) (getD (c .before .before .before .before .before .before .args .parents .now) (c .before .before .before .before .loop .i) 0) (c .before .before .before .before .loop .i) ≡ c .passes-at .result
+compared : (c : tie.After-passes-at Inv-loop μ-loop) →
+    let L = c .before .before .before .before in
+    let a = L .before .before .args in
+    passesAt (a .window .now) (getD (a .parents .now) (L .loop .i) 0) (L .loop .i) ≡ c .passes-at .result
 compared c = rw (← c .before .wide .ensures) (sym (c .passes-at .ensures))
 
 loop-holds : tie.Need-loop-holds Inv-loop μ-loop
@@ -56,7 +54,8 @@ loop-again c =
 
 returns-2 : tie.Need-returns-2 Inv-loop μ-loop
 returns-2 c =
-    check-passes (c .before .before .before .args .parents .now) (c .before .before .before .args .window .now) (c .before .loop .i) (c .loop-test .left) (c .before .loop .inv .1)
+    let a = c .before .before .before .args in
+    check-passes (a .parents .now) (a .window .now) (c .before .loop .i) (c .loop-test .left) (c .before .loop .inv .1)
 
 pub passes-spec : {M : Type 1} → statement M
 passes-spec =

@@ -1,9 +1,6 @@
--- `passes_at` meets its contract: a parent that is not to the right of i passes where its value is not above that at i, and one to the right where it is below.
-use borrow.Author.Needs.{needs}
-use lib.IntN.{pos}
-use lib.ListN.{getD}
-use mir.Syntax.{w32}
-use mir.ValLaws.{toZ-ofZ}
+-- `passes_at` meets its contract: a parent that is not to the right of i passes where its value is
+-- not above that at i, and one to the right where it is below.
+use Rattle.lists.proofs.Prelude.{pos, getD, w32, toZ-ofZ, needs}
 use Rattle.compute_parents.proofs.WindowCheck.{passes-left, passes-right}
 use Rattle.compute_parents.proofs.passes_at.Statement.{statement}
 use Rattle.compute_parents.proofs.passes_at.Tie as tie
@@ -34,13 +31,19 @@ shared-slice-copy-out-result-4 c = search needs
 
 returns : tie.Need-returns
 returns c =
-    rw (toZ-ofZ w32 (getD (c .before .before .before .args .window .now) (c .before .before .before .args .g) (pos 0)) (record { sfits = c .before .result .given }), toZ-ofZ w32 (getD (c .before .before .before .args .window .now) (c .before .before .before .args .i) (pos 0)) (record { sfits = c .result2 .given }))
-    (passes-left (c .before .before .before .args .window .now) (c .before .before .before .args .g) (c .before .before .before .args .i) (c .before .before .if1 .taken))
+    let a = c .before .before .before .args in
+    let left = toZ-ofZ w32 (getD (a .window .now) (a .g) (pos 0)) (record { sfits = c .before .result .given }) in
+    let right = toZ-ofZ w32 (getD (a .window .now) (a .i) (pos 0)) (record { sfits = c .result2 .given }) in
+    rw (left, right)
+    (passes-left (a .window .now) (a .g) (a .i) (c .before .before .if1 .taken))
 
 returns-2 : tie.Need-returns-2
 returns-2 c =
-    rw (toZ-ofZ w32 (getD (c .before .before .before .args .window .now) (c .before .before .before .args .g) (pos 0)) (record { sfits = c .before .result3 .given }), toZ-ofZ w32 (getD (c .before .before .before .args .window .now) (c .before .before .before .args .i) (pos 0)) (record { sfits = c .result4 .given }))
-    (passes-right (c .before .before .before .args .window .now) (c .before .before .before .args .g) (c .before .before .before .args .i) (c .before .before .if1 .left))
+    let a = c .before .before .before .args in
+    let left = toZ-ofZ w32 (getD (a .window .now) (a .g) (pos 0)) (record { sfits = c .before .result3 .given }) in
+    let right = toZ-ofZ w32 (getD (a .window .now) (a .i) (pos 0)) (record { sfits = c .result4 .given }) in
+    rw (left, right)
+    (passes-right (a .window .now) (a .g) (a .i) (c .before .before .if1 .left))
 
 pub passes-at-spec : {M : Type 1} → statement M
 passes-at-spec =

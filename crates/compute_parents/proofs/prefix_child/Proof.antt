@@ -1,10 +1,7 @@
--- `prefix_child` meets its contract: a place that leads into the part is no root, and neither is any place between it and the one that it leads to,
--- so each link keeps the last root below the place; the walk ends at it.
-use native.Mathlib.Omega.{arith}
-use borrow.Author.Needs.{needs}
-use Prim.Native.Nat.{_<_, _+_}
-use mathlib.Core.Path.{_≡_, sym, _∙_}
-use Rattle.lists.specs.Prelude.{lastBelow}
+-- `prefix_child` meets its contract: a place that leads into the part is no root, and neither is
+-- any place between it and the one that it leads to, so each link keeps the last root below the
+-- place; the walk ends at it.
+use Rattle.lists.proofs.Prelude.{_≡_, _∙_, sym, _+_, _<_, arith, needs, lastBelow}
 use Rattle.compute_parents.specs.Steps.{isRootFrom}
 use Rattle.compute_parents.proofs.Walk.{link-le, leads-on, walk-starts, walk-ends, walk-goes-on}
 use Rattle.compute_parents.proofs.prefix_child.Statement.{statement}
@@ -23,7 +20,10 @@ loop-holds : tie.Need-loop-holds Inv-loop μ-loop
 loop-holds c = (omega arith, walk-starts (isRootFrom (c .before .args .ds .now) (c .before .args .start)) (c .before .args .j) (omega arith))
 
 link-requires : tie.Need-link-requires Inv-loop μ-loop
-link-requires c κs = (omega arith, link-le (c .before .before .args .ds .now) (c .loop .k) (c .before .before .pre .0) (omega arith))
+link-requires c κs =
+    let s = c .before .before in
+    let a = s .args in
+    (omega arith, link-le (a .ds .now) (c .loop .k) (s .pre .0) (omega arith))
 
 is-root-requires : tie.Need-is-root-requires Inv-loop μ-loop
 is-root-requires c κs = omega arith
@@ -44,7 +44,9 @@ loop-again : tie.Need-loop-again Inv-loop μ-loop
 loop-again c =
     let b = c .before .before .before .before .before in
     let L = c .before .before .before .loop in
-    (omega (arith, c .before .before .link .ensures), L .inv .1 ∙ rw (c .before .before .link .ensures) (walk-goes-on (b .args .ds .now) (b .args .start) (L .k) (b .pre .0) (omega arith) (sym (c .before .is-root .ensures) ∙ c .if1 .left)))
+    let e = c .before .before .link .ensures in
+    let on = walk-goes-on (b .args .ds .now) (b .args .start) (L .k) (b .pre .0) (omega arith) (sym (c .before .is-root .ensures) ∙ c .if1 .left) in
+    (omega (arith, e), L .inv .1 ∙ rw e on)
 
 pub prefix-child-spec : {M : Type 1} → statement M
 prefix-child-spec =

@@ -1,8 +1,7 @@
 -- The weight of the place is its factorial, which is not 0.
-use native.Mathlib.Omega.{arith}
+use Rattle.lists.proofs.Prelude.{arith, needs}
 use Rattle.ranking.proofs.Arithmetic.{factorial-pos}
 use Rattle.compute_ranks.proofs.Laws.{digit-is}
-use borrow.Author.Needs.{needs}
 use Rattle.compute_ranks.proofs.digit_at.Statement.{statement}
 use Rattle.compute_ranks.proofs.digit_at.Tie as tie
 

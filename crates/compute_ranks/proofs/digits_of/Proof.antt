@@ -1,13 +1,8 @@
--- The first i words are the first i distances of the code, and the words from i on are as they came.
-use native.Mathlib.Omega.{arith}
-use mathlib.Core.Path.{_≡_, _∙_}
-use mathlib.Core.List.{_++_}
-use Prim.Native.Nat.{_-_, _≤_}
-use lib.ListN.{length, drop, length-set}
-use Rattle.lists.specs.Prelude.{tabulate}
+-- The first i words are the first i distances of the code, and the words from i on are as they
+-- came.
+use Rattle.lists.proofs.Prelude.{_≡_, _∙_, _++_, _-_, _≤_, length, drop, length-set, arith, needs, tabulate}
 use Rattle.ranking.specs.Rank.{unrank}
 use Rattle.compute_ranks.proofs.Laws.{digit-fits, unrank-goes-on}
-use borrow.Author.Needs.{needs}
 use Rattle.compute_ranks.proofs.digits_of.Statement.{statement}
 use Rattle.compute_ranks.proofs.digits_of.Tie as tie
 

@@ -1,10 +1,8 @@
--- The result is the table's entry at i, which is i! by one test over the whole table: `rw` takes the table from the goal, and antt computes the test.
-use native.Mathlib.Omega.{arith}
-use Rattle.lists.specs.Prelude.{tabulate, same}
+-- The result is the table's entry at i, which is i! by one test over the whole table: `rw` takes
+-- the table from the goal, and antt computes the test.
+use Rattle.lists.proofs.Prelude.{_<_, arith, needs, tabulate, same}
 use Rattle.ranking.specs.Rank.{factorial}
 use Rattle.compute_ranks.proofs.Table.{table-at}
-use Prim.Native.Nat.{_<_}
-use borrow.Author.Needs.{needs}
 use Rattle.compute_ranks.proofs.factorial_at.Statement.{statement}
 use Rattle.compute_ranks.proofs.factorial_at.Tie as tie
 

@@ -1,11 +1,8 @@
--- The rank is the sum so far and the part of the rank from place i on; so the sum never passes the rank, which is below 20!, and at the end it is the rank.
-use native.Mathlib.Omega.{arith}
-use mathlib.Core.Path.{_≡_}
-use Prim.Native.Nat.{_+_, _-_, _*_, _^_, _<_, _≤_}
-use lib.ListN.{length, drop}
+-- The rank is the sum so far and the part of the rank from place i on; so the sum never passes the
+-- rank, which is below 20!, and at the end it is the rank.
+use Rattle.lists.proofs.Prelude.{_≡_, _+_, _-_, _*_, _^_, _≤_, _<_, length, drop, arith, needs}
 use Rattle.ranking.specs.Rank.{rank, rankFrom}
 use Rattle.compute_ranks.proofs.Laws.{rank-fits, rank-starts, rank-goes-on, rank-ends}
-use borrow.Author.Needs.{needs}
 use Rattle.compute_ranks.proofs.rank_of.Statement.{statement}
 use Rattle.compute_ranks.proofs.rank_of.Tie as tie
 
@@ -19,7 +16,8 @@ abbrev μ-loop : tie.MeasureT-loop
 summed : (c : tie.After-factorial-at Inv-loop μ-loop)
     → rank (c .before .before .before .before .before .before .args .ds .now)
     ≡ c .before .before .before .before .loop .sum + c .before .wide .result * c .factorial-at .result
-    + rankFrom (c .before .before .before .before .loop .i + 1) (drop (c .before .before .before .before .loop .i + 1) (c .before .before .before .before .before .before .args .ds .now))
+    + rankFrom (c .before .before .before .before .loop .i + 1)
+    (drop (c .before .before .before .before .loop .i + 1) (c .before .before .before .before .before .before .args .ds .now))
 summed c =
     let L = c .before .before .before .before .loop in
     rank-goes-on _ (L .i) (L .sum) _ _ (c .before .before .before .loop-test .taken) (L .inv .1) (c .before .wide .ensures) (c .factorial-at .ensures)

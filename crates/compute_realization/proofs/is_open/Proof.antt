@@ -1,18 +1,14 @@
--- The place looked for is open at i exactly if it is open at j + 1, for each place j that the way of links comes by: before an open place the
--- same places are open. The way comes to the place, or passes below it, or ends above it.
-use Prim.Native.Nat.{ℕ, _+_, _-_, _≤_, _<_}
-use mathlib.Core.Path.{_≡_, sym, ap, _∙_}
-use native.Mathlib.Omega.{arith}
-use borrow.Author.Needs.{needs}
-use lib.Dec.{eqb}
-use Rattle.lists.specs.Prelude.{any}
-use Rattle.compute_realization.specs.OpenPlaces.{openPlaces}
-use Rattle.compute_realization.proofs.OpenPlaces.{led-le, way-none, way-on, way-end}
+-- The place looked for is open at i exactly if it is open at j + 1, for each place j that the way
+-- of links comes by: before an open place the same places are open. The way comes to the place, or
+-- passes below it, or ends above it.
+use Rattle.lists.proofs.Prelude.{_≡_, _∙_, ap, sym, ℕ, _+_, _-_, _≤_, _<_, eqb, arith, needs, any}
+use Rattle.compute_realization.specs.OpenDistances.{openDistances}
+use Rattle.compute_realization.proofs.OpenDistances.{led-le, way-none, way-on, way-end}
 use Rattle.compute_realization.proofs.is_open.Statement.{statement}
 use Rattle.compute_realization.proofs.is_open.Tie as tie
 
 abbrev Inv-loop : tie.InvT-loop
-Inv-loop ds i target j₀ j = (j < i) × (any (eqb (i - target)) (openPlaces ds i) ≡ any (eqb (j + 1 - target)) (openPlaces ds (j + 1)))
+Inv-loop ds i target j₀ j = (j < i) × (any (eqb (i - target)) (openDistances ds i) ≡ any (eqb (j + 1 - target)) (openDistances ds (j + 1)))
 
 abbrev μ-loop : tie.MeasureT-loop
 μ-loop ds i target j₀ j = j
@@ -31,7 +27,7 @@ loop-holds : tie.Need-loop-holds Inv-loop μ-loop
 loop-holds c =
     let a = c .before .args in
     let e : a .i - 1 + 1 ≡ a .i = omega arith in
-    (omega arith, sym (ap (λ (k : ℕ). any (eqb (k - a .target)) (openPlaces (a .ds .now) k)) e))
+    (omega arith, sym (ap (λ (k : ℕ). any (eqb (k - a .target)) (openDistances (a .ds .now) k)) e))
 
 mul-wide : tie.Need-mul-wide Inv-loop μ-loop
 mul-wide c = search needs

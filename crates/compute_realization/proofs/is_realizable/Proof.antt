@@ -1,26 +1,20 @@
--- The walk over the whole list answers what the walk from place i on answers with what is open there, as long as every distance before i leads
--- to an open place.
-use Prim.Native.Nat.{_-_, _≤_}
-use mathlib.Core.Path.{_≡_, refl, sym, _∙_}
-use borrow.Author.Tests.{not-true, not-false}
-use borrow.Author.Count.{below-none, below-more}
-use lib.ListN.{drop}
+-- The walk over the whole list answers what the walk from place i on answers with what is open
+-- there, as long as every distance before i leads to an open place.
+use Rattle.lists.proofs.Prelude.{_≡_, _∙_, sym, refl, _-_, _≤_, drop, arith, not-false, not-true, below-more, below-none, needs}
 use Rattle.realization.specs.Realization.{walk, realizable}
-use Rattle.compute_realization.specs.OpenPlaces.{openPlaces, Led}
-use Rattle.compute_realization.proofs.OpenPlaces.{walk-on, walk-stop, walk-end}
-use native.Mathlib.Omega.{arith}
-use borrow.Author.Needs.{needs}
+use Rattle.compute_realization.specs.OpenDistances.{openDistances, Led}
+use Rattle.compute_realization.proofs.OpenDistances.{walk-on, walk-stop, walk-end}
 use Rattle.compute_realization.proofs.is_realizable.Statement.{statement}
 use Rattle.compute_realization.proofs.is_realizable.Tie as tie
 
 abbrev Inv-loop : tie.InvT-loop
-Inv-loop ds n i₀ i = (i ≤ n) × Led ds i × (realizable ds ≡ walk (openPlaces ds i) (drop i ds))
+Inv-loop ds n i₀ i = (i ≤ n) × Led ds i × (realizable ds ≡ walk (openDistances ds i) (drop i ds))
 
 abbrev μ-loop : tie.MeasureT-loop
 μ-loop ds n i₀ i = n - i
 
 loop-holds : tie.Need-loop-holds Inv-loop μ-loop
-unfolding realizable openPlaces
+unfolding realizable openDistances
 loop-holds c = (omega arith, below-none _, refl)
 
 leads-back-requires : tie.Need-leads-back-requires Inv-loop μ-loop

@@ -1,8 +1,7 @@
--- A distance 0 leads to no place and is in order; one that is more than its place leads out of the list; any other leads to an open place
--- exactly if the place i - d is open.
-use mathlib.Core.Path.{_∙_}
-use Rattle.compute_realization.proofs.OpenPlaces.{leads-none, leads-out, leads-some}
-use borrow.Author.Needs.{needs}
+-- A distance 0 leads to no place and is in order; one that is more than its place leads out of the
+-- list; any other leads to an open place exactly if the place i - d is open.
+use Rattle.lists.proofs.Prelude.{_∙_, needs}
+use Rattle.compute_realization.proofs.OpenDistances.{leads-none, leads-out, leads-some}
 use Rattle.compute_realization.proofs.leads_back.Statement.{statement}
 use Rattle.compute_realization.proofs.leads_back.Tie as tie
 

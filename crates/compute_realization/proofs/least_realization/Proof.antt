@@ -1,25 +1,30 @@
--- From the end to the front: the values from place i on are written, and next holds the next lower place of each. The value at i - 1 is one more
--- than the value at its next lower place, which is written already, or 0 where there is none.
-use Prim.Native.Nat.{ℕ, _-_, _≤_, _<_}
-use mathlib.Core.Path.{_≡_, refl, sym, ap, _∙_}
-use mathlib.Core.List.{_++_}
-use lib.IntN.{ℤ, pos, _+ℤ_}
-use lib.ListN.{length, getD, take, drop, length-set}
-use mir.Syntax.{w32}
-use mir.Val.{toZ, ofZ}
+-- From the end to the front: the values from place i on are written, and next holds the next lower
+-- place of each. The value at i - 1 is one more than the value at its next lower place, which is
+-- written already, or 0 where there is none.
+use Rattle.lists.proofs.Prelude.{List, _≡_, _∙_, ap, sym, refl, _++_, ℕ, _-_, _≤_, _<_, ℤ, pos, _+ℤ_, length, getD, take, drop, length-set, arith, w32, toZ}
+use Rattle.lists.proofs.Prelude.{ofZ, needs}
 use Rattle.lists.proofs.Order.{back-i32}
 use Rattle.realization.specs.Realization.{leastRealization}
 use Rattle.compute_realization.specs.NextLower.{IsNext}
 use Rattle.compute_realization.proofs.NextLower.{least-more, least-zero}
 use Rattle.compute_realization.proofs.Values.{written, values-none, values-more, values-at, values-room, next-more}
-use native.Mathlib.Omega.{arith}
-use borrow.Author.Needs.{needs}
 use Rattle.compute_realization.proofs.least_realization.Statement.{statement}
 use Rattle.compute_realization.proofs.least_realization.Tie as tie
 
+-- before the turn that writes place i - 1
+record Writing (ds : List ℕ) (before out : List ℤ) (next : List ℕ) (i : ℕ) : Type 0 where
+  -- place i is in the list, or behind its last one
+  pub within : i ≤ length ds
+  -- the arrays are as long as they were
+  pub sized : length out ≡ length before
+  pub sizedNext : length next ≡ 256
+  -- the values from place i on are written, and the rest is as it was
+  pub values : out ≡ take i before ++ drop i (written ds before)
+  -- and next has the next lower places from place i on
+  pub nexts : (k : ℕ) → i ≤ k → k < length ds → IsNext ds k (getD next k 0)
+
 abbrev Inv-loop : tie.InvT-loop
-Inv-loop ds out₀ n next₀ i₀ out next i =
-    (i ≤ n) × (length out ≡ length out₀) × (length next ≡ 256) × (out ≡ take i out₀ ++ drop i (written ds out₀)) × ((k : ℕ) → i ≤ k → k < length ds → IsNext ds k (getD next k 0))
+Inv-loop ds out₀ n next₀ i₀ out next i = Writing ds out₀ out next i
 
 abbrev μ-loop : tie.MeasureT-loop
 μ-loop ds out₀ n next₀ i₀ out next i = i
@@ -27,7 +32,13 @@ abbrev μ-loop : tie.MeasureT-loop
 loop-holds : tie.Need-loop-holds Inv-loop μ-loop
 loop-holds c =
     let st = c .before in
-    (omega arith, refl, refl, values-none _ _ (st .pre .0), λ k a b. absurd (let z : ⊥ = omega arith in z))
+    record {
+      within = omega arith;
+      sized = refl;
+      sizedNext = refl;
+      values = values-none _ _ (st .pre .0);
+      nexts = λ k a b. absurd (let z : ⊥ = omega arith in z);
+    }
 
 sub-i : tie.Need-sub-i Inv-loop μ-loop
 sub-i c = search needs
@@ -35,7 +46,7 @@ sub-i c = search needs
 next-lower-requires : tie.Need-next-lower-requires Inv-loop μ-loop
 next-lower-requires c κs =
     let L = c .before .before .loop in
-    ((omega arith, omega arith), λ k a b. L .inv .4 k (omega arith) b)
+    ((omega arith, omega arith), λ k a b. L .inv .nexts k (omega arith) b)
 
 cast-next : tie.Need-cast-next Inv-loop μ-loop
 cast-next c = search needs
@@ -50,8 +61,10 @@ one-more-requires : tie.Need-one-more-requires Inv-loop μ-loop
 one-more-requires c κs =
     let st = c .before .before .before .before .before .before .before in
     let L = c .before .before .before .before .before .loop in
-    let p = c .before .before .next-lower .ensures in
-    (omega (arith, c .before .if1 .taken), values-room _ _ (st .pre .0) (L .out) (L .i) _ (omega (arith, p .after)) (c .before .if1 .taken) (st .pre .1 .1) (st .pre .1 .0) (L .inv .3))
+    let p = c .before .before .next-lower .ensures in (
+      omega (arith, c .before .if1 .taken),
+      values-room _ _ (st .pre .0) (L .out) (L .i) _ (omega (arith, p .after)) (c .before .if1 .taken) (st .pre .1 .1) (st .pre .1 .0) (L .inv .values),
+    )
 
 mul-t16 : tie.Need-mul-t16 Inv-loop μ-loop
 mul-t16 c = search needs
@@ -73,14 +86,16 @@ loop-again c =
     let v : toZ w32 (ofZ w32 (c .one-more .result)) ≡ getD (leastRealization (st .args .ds .now)) (L .i - 1) (pos 0) =
     back-i32 (record { sfits = c .one-more .ok })
     ∙ c .one-more .ensures
-    ∙ ap (λ (z : ℤ). z +ℤ pos 1) (values-at (st .args .ds .now) (st .args .out .now) e (L .out) (L .i) j (omega (arith, p .after)) t (st .pre .1 .1) (L .inv .3))
-    ∙ sym (least-more (st .args .ds .now) (L .i - 1) j e (omega arith) p t) in (
-      omega arith,
-      length-set (L .out) (L .i - 1) _ ∙ L .inv .1,
-      length-set (L .next) (L .i - 1) _ ∙ L .inv .2,
-      values-more (st .args .ds .now) (st .args .out .now) e (L .out) (L .i) _ (omega arith) (L .inv .0) (st .pre .1 .1) (L .inv .3) v,
-      next-more (st .args .ds .now) (L .next) (L .i) j (omega arith) (omega arith) (L .inv .4) p,
-    )
+    ∙ ap (λ (z : ℤ). z +ℤ pos 1)
+    (values-at (st .args .ds .now) (st .args .out .now) e (L .out) (L .i) j (omega (arith, p .after)) t (st .pre .1 .1) (L .inv .values))
+    ∙ sym (least-more (st .args .ds .now) (L .i - 1) j e (omega arith) p t) in
+    record {
+      within = omega (arith, L .inv .within);
+      sized = length-set (L .out) (L .i - 1) _ ∙ L .inv .sized;
+      sizedNext = length-set (L .next) (L .i - 1) _ ∙ L .inv .sizedNext;
+      values = values-more (st .args .ds .now) (st .args .out .now) e (L .out) (L .i) _ (omega arith) (L .inv .within) (st .pre .1 .1) (L .inv .values) v;
+      nexts = next-more (st .args .ds .now) (L .next) (L .i) j (omega arith) (omega arith) (L .inv .nexts) p;
+    }
 
 mul-out : tie.Need-mul-out Inv-loop μ-loop
 mul-out c = search needs
@@ -97,22 +112,24 @@ loop-again-2 c =
     let L = c .before .before .before .before .loop in
     let p = c .before .next-lower .ensures in
     let j = c .before .next-lower .result in
-    let e = st .pre .0 in (
-      omega arith,
-      length-set (L .out) (L .i - 1) _ ∙ L .inv .1,
-      length-set (L .next) (L .i - 1) _ ∙ L .inv .2,
-      values-more (st .args .ds .now) (st .args .out .now) e (L .out) (L .i) _ (omega arith) (L .inv .0) (st .pre .1 .1) (L .inv .3) (sym (least-zero (st .args .ds .now) (L .i - 1) j e (omega arith) p (c .if1 .left))),
-      next-more (st .args .ds .now) (L .next) (L .i) j (omega arith) (omega arith) (L .inv .4) p,
-    )
+    let e = st .pre .0 in
+    let v = sym (least-zero (st .args .ds .now) (L .i - 1) j e (omega arith) p (c .if1 .left)) in
+    record {
+      within = omega (arith, L .inv .within);
+      sized = length-set (L .out) (L .i - 1) _ ∙ L .inv .sized;
+      sizedNext = length-set (L .next) (L .i - 1) _ ∙ L .inv .sizedNext;
+      values = values-more (st .args .ds .now) (st .args .out .now) e (L .out) (L .i) _ (omega arith) (L .inv .within) (st .pre .1 .1) (L .inv .values) v;
+      nexts = next-more (st .args .ds .now) (L .next) (L .i) j (omega arith) (omega arith) (L .inv .nexts) p;
+    }
 
 same-length : tie.Need-same-length Inv-loop μ-loop
-same-length c = c .before .loop .inv .1
+same-length c = c .before .loop .inv .sized
 
 returns : tie.Need-returns Inv-loop μ-loop
 returns c =
     let L = c .before .loop in
     let z : L .i ≡ 0 = omega arith in
-    rw z at (L .inv .3)
+    rw z at (L .inv .values)
 
 pub least-realization-spec : {M : Type 1} → statement M
 least-realization-spec =

@@ -1,9 +1,6 @@
--- Every place after i and before j leads to i or later. So does j, where the loop goes on, and what lies between j and its next lower place leads
--- to j or later.
-use Prim.Native.Nat.{ℕ, _-_, _≤_, _<_}
-use mathlib.Core.Path.{sym, subst}
-use native.Mathlib.Omega.{arith}
-use borrow.Author.Needs.{needs}
+-- Every place after i and before j leads to i or later. So does j, where the loop goes on, and what
+-- lies between j and its next lower place leads to j or later.
+use Rattle.lists.proofs.Prelude.{sym, subst, ℕ, _-_, _≤_, _<_, arith, needs}
 use Rattle.compute_realization.specs.NextLower.{IsNext}
 use Rattle.compute_realization.proofs.NextLower.{Passed, passed-none, passed-more, next-root, next-before, next-none}
 use Rattle.compute_realization.proofs.next_lower.Statement.{statement}
@@ -16,11 +13,14 @@ abbrev μ-loop : tie.MeasureT-loop
 μ-loop ds next i n j₀ j = n - j
 
 -- what was read is the next lower place of j
-linked : (c : tie.After-wide2 Inv-loop μ-loop) → IsNext (c .before .before .before .before .before .before .before .before .before .args .ds .now) (c .before .before .before .before .before .before .before .loop .j) (c .wide2 .result)
+linked : (c : tie.After-wide2 Inv-loop μ-loop)
+    → IsNext (c .before .before .before .before .before .before .before .before .before .args .ds .now)
+    (c .before .before .before .before .before .before .before .loop .j) (c .wide2 .result)
 linked c =
     let st = c .before .before .before .before .before .before .before .before .before in
     let L = c .before .before .before .before .before .before .before .loop in
-    subst (λ (k : ℕ). IsNext (st .args .ds .now) (L .j) k) (sym (c .wide2 .ensures)) (st .pre .1 (L .j) (L .inv .0) (c .before .before .before .before .before .before .loop-test .taken))
+    subst (λ (k : ℕ). IsNext (st .args .ds .now) (L .j) k) (sym (c .wide2 .ensures))
+    (st .pre .1 (L .j) (L .inv .0) (c .before .before .before .before .before .before .loop-test .taken))
 
 add-j : tie.Need-add-j Inv-loop μ-loop
 add-j c = search needs
@@ -69,7 +69,8 @@ loop-again c =
     let z = c .before .before .before .if1 .left in (
       omega (arith, p .after),
       p .inside,
-      passed-more _ _ (L .j) _ (L .inv .0) (L .inv .2) (omega (arith, z, c .before .before .before .before .wide .ensures), omega (arith, c .before .before .before .before .wide .ensures)) p,
+      passed-more _ _ (L .j) _ (L .inv .0) (L .inv .2)
+          (omega (arith, z, c .before .before .before .before .wide .ensures), omega (arith, c .before .before .before .before .wide .ensures)) p,
     )
 
 returns-3 : tie.Need-returns-3 Inv-loop μ-loop

@@ -1,10 +1,5 @@
 -- A value that is at most 255 has room for one more, so the sum is exact.
-use borrow.Author.Needs.{needs}
-use lib.IntN.{pos, _+ℤ_}
-use lib.ListN.{getD}
-use mir.Syntax.{w32}
-use mir.Val.{SFits}
-use mir.ValLaws.{toZ-ofZ}
+use Rattle.lists.proofs.Prelude.{pos, _+ℤ_, getD, w32, SFits, toZ-ofZ, needs}
 use Rattle.compute_realization.proofs.Values.{more-fits}
 use Rattle.compute_realization.proofs.one_more.Statement.{statement}
 use Rattle.compute_realization.proofs.one_more.Tie as tie

@@ -1,11 +1,9 @@
--- An array that holds no set does not hold the empty one either, so its refusal can be tested for first; the others follow in the order of their numbers.
-use mathlib.Core.Path.{_≡_, sym, _∙_, ap}
-use native.Mathlib.Omega.{arith}
-use borrow.Author.Needs.{needs}
-use lib.ListN.{length}
+-- An array that holds no set does not hold the empty one either, so its refusal can be tested for
+-- first; the others follow in the order of their numbers.
+use Rattle.lists.proofs.Prelude.{_≡_, _∙_, ap, sym, length, arith, needs}
 use Rattle.answers.specs.Told.{toldSize}
-use Rattle.set_access.specs.Patterns.{patternsOf, Good}
-use Rattle.set_arrays.proofs.Checked.{check-refused, check-good}
+use Rattle.pattern_set.specs.PatternSet.{patternsOf, IsSet}
+use Rattle.entries.proofs.Searchable.{check-refused, check-good}
 use Rattle.filter_search.proofs.Answers.{entry-broken, entry-empty, entry-long, entry-told, entry-after}
 use Rattle.filter_search.proofs.filter_search.Statement.{statement}
 use Rattle.filter_search.proofs.filter_search.Tie as tie
@@ -20,7 +18,9 @@ enum-told : tie.Need-enum-told
 enum-told c = search needs
 
 -- the check told the size of the set: the array holds one
-known : (c : tie.After-known-told) → Good (c .before .before .before .before .before .before .args .set .now) × (c .before .k .given .0 .0 ≡ length (patternsOf (c .before .before .before .before .before .before .args .set .now)))
+known : (c : tie.After-known-told) →
+    let ws = c .before .before .before .before .before .before .args .set .now in
+    IsSet ws × (c .before .k .given .0 .0 ≡ length (patternsOf ws))
 known c =
     let ws = c .before .before .before .before .before .before .args .set .now in
     let k = c .before .k .given in
@@ -35,7 +35,8 @@ returns : tie.Need-returns
 returns c =
     let s = c .before .before .before .before .before in
     let ws = s .args .set .now in
-    entry-broken ws (s .args .text .now) (s .args .hits .now) (check-refused ws (c .enum-told .given .0 .0) (sym (ap toldSize (c .enum-told .given .1)) ∙ c .before .before .check-set .ensures))
+    entry-broken ws (s .args .text .now) (s .args .hits .now)
+    (check-refused ws (c .enum-told .given .0 .0) (sym (ap toldSize (c .enum-told .given .1)) ∙ c .before .before .check-set .ensures))
 
 returns-2 : tie.Need-returns-2
 returns-2 c =

@@ -1,11 +1,8 @@
--- There are no more hits than candidates, so where the candidates would fit, the hits need not be counted.
-use mathlib.Core.Path.{ap}
-use Prim.Native.Nat.{ℕ, _*_}
-use native.Mathlib.Omega.{arith}
-use borrow.Author.Needs.{needs}
-use lib.Dec.{leb}
-use Rattle.set_access.specs.Patterns.{patternsOf}
-use Rattle.set_access.proofs.Laws.{good-set}
+-- There are no more hits than candidates, so where the candidates would fit, the hits need not be
+-- counted.
+use Rattle.lists.proofs.Prelude.{ap, ℕ, _*_, leb, arith, needs}
+use Rattle.pattern_set.specs.PatternSet.{patternsOf}
+use Rattle.pattern_set.proofs.IsSet.{set-good}
 use Rattle.filter_plan.proofs.Candidates.{hits-candidates}
 use Rattle.filter_search.proofs.Answers.{candidates-fit}
 use Rattle.filter_search.proofs.list_fits.Statement.{statement}
@@ -18,7 +15,7 @@ returns : tie.Need-returns
 returns c =
     let s = c .before .before .before in
     let a = s .args in
-    candidates-fit (patternsOf (a .set .now)) (a .text .now) (a .count) (a .room) (good-set (a .set .now) (s .pre .0)) (s .pre .1 .0 .1) (c .if1 .taken)
+    candidates-fit (patternsOf (a .set .now)) (a .text .now) (a .count) (a .room) (set-good (a .set .now) (s .pre .0)) (s .pre .1 .0 .1) (c .if1 .taken)
 
 count-hits-requires : tie.Need-count-hits-requires
 count-hits-requires c κs = search needs
@@ -27,7 +24,7 @@ mul-result : tie.Need-mul-result
 mul-result c =
     let s = c .before .before .before .before in
     let a = s .args in
-    omega (arith, c .count-hits .ensures, s .pre .1 .0 .1, hits-candidates (patternsOf (a .set .now)) (a .text .now) (good-set (a .set .now) (s .pre .0)))
+    omega (arith, c .count-hits .ensures, s .pre .1 .0 .1, hits-candidates (patternsOf (a .set .now)) (a .text .now) (set-good (a .set .now) (s .pre .0)))
 
 returns-2 : tie.Need-returns-2
 returns-2 c = ap (λ (n : ℕ). leb (2 * n) (c .before .before .before .before .args .room)) (c .count-hits .ensures)

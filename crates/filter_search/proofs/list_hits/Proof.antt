@@ -1,20 +1,15 @@
 -- The list is written only where it is known to fit.
-use mathlib.Core.Path.{_≡_, sym, _∙_, ap}
-use mathlib.Core.Bool.{true}
-use Prim.Native.Nat.{_*_}
-use borrow.Author.Needs.{needs}
-use borrow.Author.Tests.{not-true, not-false, leb-true}
-use lib.Dec.{leb}
-use lib.ListN.{length}
-use lib.Seq.{length-sets}
-use Rattle.set_access.specs.Patterns.{patternsOf}
+use Rattle.lists.proofs.Prelude.{_≡_, _∙_, ap, sym, true, _*_, _/_, leb, length, length-sets, arith, not-false, not-true, leb-true, needs}
+use Rattle.pattern_set.specs.PatternSet.{patternsOf}
 use Rattle.matching.specs.Matching.{hits, hitWords}
 use Rattle.filter_search.proofs.Answers.{list-refused, list-found}
 use Rattle.filter_search.proofs.list_hits.Statement.{statement}
 use Rattle.filter_search.proofs.list_hits.Tie as tie
 
 -- it fits
-room : (c : tie.Else1) → leb (2 * length (hits (patternsOf (c .before .before .before .before .before .args .set .now)) (c .before .before .before .before .before .args .text .now))) (length (c .before .before .before .before .before .args .out .now)) ≡ true
+room : (c : tie.Else1) →
+    let a = c .before .before .before .before .before .args in
+    leb (2 * length (hits (patternsOf (a .set .now)) (a .text .now))) (length (a .out .now)) ≡ true
 room c = sym (c .before .list-fits .ensures) ∙ not-false _ (c .if1 .left)
 
 list-fits-requires : tie.Need-list-fits-requires
@@ -43,8 +38,11 @@ returns-2 c =
     let d = w .before .before in
     let s = d .before .before .before .before .before in
     let a = s .args in
-    let r = list-found (patternsOf (a .set .now)) (a .text .now) (a .out .now) (room d) (w .write-hits .result) (a .count) (w .write-hits .ensures .0) (s .pre .1 .0 .1) in
-    (r .0, w .write-hits .ensures .1 ∙ r .1)
+    let ps = patternsOf (a .set .now) in
+    let e = w .write-hits .ensures in
+    let found : w .write-hits .result / 2 ≡ length (hits ps (a .text .now)) = omega (arith, e .0) in
+    let r = list-found ps (a .text .now) (a .out .now) (room d) _ (a .count) found (s .pre .1 .0 .1) in
+    (r .0, e .1 ∙ r .1)
 
 pub list-hits-spec : {M : Type 1} → statement M
 list-hits-spec =

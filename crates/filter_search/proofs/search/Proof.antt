@@ -1,10 +1,9 @@
--- The tables are filled from arrays of zeros, one call after the other; the search finds them as they were filled.
-use mathlib.Core.Path.{sym, _∙_}
-use Prim.Native.Nat.{ℕ}
-use borrow.Author.Needs.{needs}
-use lib.ListN.{length-replicate}
-use Rattle.set_access.specs.Patterns.{patternsOf}
-use Rattle.set_access.proofs.Laws.{good-set, total-le}
+-- The tables are filled from arrays of zeros, one call after the other; the search finds them as
+-- they were filled.
+use Rattle.lists.proofs.Prelude.{_∙_, sym, ℕ, length-replicate, needs}
+use Rattle.pattern_set.specs.PatternSet.{patternsOf}
+use Rattle.pattern_set.proofs.IsSet.{set-good}
+use Rattle.set_access.proofs.Laws.{total-le}
 use Rattle.filter_tables.proofs.Sets.{empty-zeros}
 use Rattle.filter_windows.proofs.Windows.{parents-length}
 use Rattle.filter_search.proofs.search.Statement.{statement}
@@ -28,12 +27,14 @@ fill-fits-requires c κs =
 
 slice-aggregate-search-by : tie.Need-slice-aggregate-search-by
 slice-aggregate-search-by c =
-    let f = c .before .before .before .before .before .before .before .before .before .before .before .before in
+    let o = c .before .before .before .before .before .before .before .before in
+    let f = o .before .before .before .before in
     let s = f .before .before .before .before .before .before in
     let ws = s .args .set .now in
     let g = s .pre .0 in
     sym
-    (parents-length (patternsOf ws) _ _ (good-set ws g) (f .fill-parents .ensures .0) (rw (length-replicate {A = ℕ} 4096 0) (total-le ws g)) (f .fill-parents .ensures .1)
+    (parents-length (patternsOf ws) _ _ (set-good ws g) (f .fill-parents .ensures .0)
+    (rw (length-replicate {A = ℕ} 4096 0) (total-le ws g)) (f .fill-parents .ensures .1)
     ∙ length-replicate {A = ℕ} 4096 0)
 
 search-by-requires : tie.Need-search-by-requires
@@ -46,10 +47,10 @@ search-by-requires c κs =
       s .pre .0,
       (
         s .pre .1,
-        (
-          record { byLow = o .fill-own-tables .ensures .0; byHigh = o .fill-own-tables .ensures .1; byPlace = f .fill-fits .ensures },
-          record { ranks = n .fill-numbers .ensures .0; parentLists = p .fill-parents .ensures .0 },
-        ),
+        record {
+          own = record { byLow = o .fill-own-tables .ensures .0; byHigh = o .fill-own-tables .ensures .1; byPlace = f .fill-fits .ensures };
+          check = record { ranks = n .fill-numbers .ensures .0; parentLists = p .fill-parents .ensures .0 };
+        },
       ),
     )
 

@@ -1,27 +1,33 @@
--- No place has more hits than there are patterns, so an array with two words for every pattern at every place takes every list.
-use mathlib.Core.Path.{_≡_, refl, sym, _∙_}
-use Prim.Native.Nat.{_*_, _≤_}
-use native.Mathlib.Omega.{arith}
-use borrow.Author.Needs.{needs}
-use borrow.Author.Tests.{leb-true}
-use lib.ListN.{length}
-use Rattle.set_access.specs.Patterns.{patternsOf}
-use Rattle.set_access.proofs.Laws.{good-set}
-use Rattle.filter_search.proofs.Lists.{hits-count}
+-- No place has more hits than there are patterns, so an array with two words for every pattern at
+-- every place takes every list.
+use Rattle.lists.proofs.Prelude.{_∙_, sym, refl, _*_, _≤_, length, arith, le-leb, leb-true, needs}
+use Rattle.pattern_set.specs.PatternSet.{patternsOf}
+use Rattle.pattern_set.proofs.IsSet.{set-good}
+use Rattle.matching.specs.Matching.{hits}
+use Rattle.filter_passes.proofs.Lists.{hits-count}
+use Rattle.filter_search.proofs.Answers.{list-found}
 use Rattle.filter_search.proofs.search_by.Statement.{statement}
 use Rattle.filter_search.proofs.search_by.Tie as tie
 
 takes-all-requires : tie.Need-takes-all-requires
 takes-all-requires c κs = search needs
 
-one-pass-requires : tie.Need-one-pass-requires
-one-pass-requires c κs =
-    let t = c .before in
-    let s = t .before .before .before .before .before in
+-- the list fits
+room : (c : tie.Then1) →
+    let a = c .before .before .before .before .before .args in
+    2 * length (hits (patternsOf (a .set .now)) (a .text .now)) ≤ length (a .out .now)
+room c =
+    let s = c .before .before .before .before .before in
     let a = s .args in
     let ps = patternsOf (a .set .now) in
-    let room : 2 * (length (a .text .now) * length ps) ≤ length (a .out .now) = leb-true _ _ (sym (t .before .takes-all .ensures) ∙ t .if1 .taken) in
-    (s .pre .0, ((s .pre .1 .0, omega (arith, room, hits-count ps (a .text .now) (length (a .text .now)) (good-set (a .set .now) (s .pre .0)) refl)), s .pre .1 .1))
+    let n = length (a .text .now) in
+    let all : 2 * (n * length ps) ≤ length (a .out .now) = leb-true _ _ (sym (c .before .takes-all .ensures) ∙ c .if1 .taken) in
+    omega (arith, all, hits-count ps (a .text .now) n (set-good (a .set .now) (s .pre .0)) refl)
+
+one-pass-requires : tie.Need-one-pass-requires
+one-pass-requires c κs =
+    let s = c .before .before .before .before .before .before in
+    (s .pre .0, ((s .pre .1 .0, room (c .before)), s .pre .1 .1))
 
 two-passes-requires : tie.Need-two-passes-requires
 two-passes-requires c κs = let s = c .before .before .before .before .before .before in s .pre
@@ -30,7 +36,13 @@ same-length : tie.Need-same-length
 same-length c = search needs
 
 returns : tie.Need-returns
-returns c = c .before .before .one-pass .ensures
+returns c =
+    let o = c .before .before in
+    let t = o .before .before in
+    let a = t .before .before .before .before .before .args in
+    let e = o .one-pass .ensures in
+    let r = list-found (patternsOf (a .set .now)) (a .text .now) (a .out .now) (le-leb _ _ (room t)) _ _ (e .0) (e .1 .0) in
+    (r .0, e .1 .1 ∙ r .1)
 
 same-length-2 : tie.Need-same-length-2
 same-length-2 c = search needs

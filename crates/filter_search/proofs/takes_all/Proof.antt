@@ -1,10 +1,5 @@
 -- There are at most 64 patterns and 1,048,576 places.
-use mathlib.Core.Path.{ap}
-use Prim.Native.Nat.{ℕ, _*_}
-use native.Mathlib.Omega.{arith}
-use native.Mathlib.Nat.{mul-le-mul-right}
-use borrow.Author.Needs.{needs}
-use lib.Dec.{leb}
+use Rattle.lists.proofs.Prelude.{ap, ℕ, _*_, leb, mul-le-mul-right, arith, needs}
 use Rattle.set_access.proofs.Laws.{count-le}
 use Rattle.filter_search.proofs.takes_all.Statement.{statement}
 use Rattle.filter_search.proofs.takes_all.Tie as tie

@@ -1,7 +1,5 @@
 -- The list is made from what the first pass leaves behind.
-use Prim.Native.Nat.{ℕ}
-use borrow.Author.Needs.{needs}
-use lib.ListN.{length-replicate}
+use Rattle.lists.proofs.Prelude.{ℕ, length-replicate, needs}
 use Rattle.filter_search.proofs.two_passes.Statement.{statement}
 use Rattle.filter_search.proofs.two_passes.Tie as tie
 

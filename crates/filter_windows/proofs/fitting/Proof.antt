@@ -1,10 +1,6 @@
 -- What is in the set and in the entry of the last place.
-use mathlib.Core.Path.{_∙_, ap}
-use mathlib.Core.Bool.{_&&_}
-use Prim.Native.Nat.{ℕ}
-use lib.ListN.{getD}
+use Rattle.lists.proofs.Prelude.{_∙_, ap, _&&_, ℕ, getD, needs}
 use Rattle.bit_sets.specs.BitSets.{bitAt}
-use borrow.Author.Needs.{needs}
 use Rattle.filter_windows.proofs.fitting.Statement.{statement}
 use Rattle.filter_windows.proofs.fitting.Tie as tie
 

@@ -1,29 +1,35 @@
--- The window and the parents are parts that begin where the check's law says, and the check by global parents decides.
-use mathlib.Core.Path.{_≡_, _∙_}
-use mathlib.Core.List.{flatten}
-use Prim.Native.Nat.{_+_, _-_, _≤_}
-use native.Mathlib.Omega.{arith}
-use borrow.Author.Needs.{needs}
-use lib.ListN.{length, take}
-use Rattle.set_access.specs.Patterns.{patternsOf}
+-- The window and the parents are parts that begin where the check's law says, and the check by
+-- global parents decides.
+use Rattle.lists.proofs.Prelude.{_≡_, _∙_, flatten, _+_, _-_, _≤_, length, take, arith, needs}
+use Rattle.pattern_set.specs.PatternSet.{patternsOf}
 use Rattle.set_access.proofs.Laws.{offset-small, pattern-le, pattern-ge, pattern-realizable}
 use Rattle.filter_windows.proofs.Windows.{parents-start, first-start-le, parents-fit, check-fits, check-is}
 use Rattle.filter_windows.proofs.has_hit.Statement.{statement}
 use Rattle.filter_windows.proofs.has_hit.Tie as tie
 
 -- where the parents begin
-begins-at : (c : tie.After-pattern-start2) → c .pattern-start2 .result - c .before .pattern-start .result ≡ length (flatten (take (c .before .before .before .before .before .args .j) (patternsOf (c .before .before .before .before .before .args .set .now))))
+begins-at : (c : tie.After-pattern-start2) →
+    let a = c .before .before .before .before .before .args in
+    c .pattern-start2 .result - c .before .pattern-start .result ≡ length (flatten (take (a .j) (patternsOf (a .set .now))))
 begins-at c =
     let s = c .before .before .before .before .before in
     parents-start (patternsOf (s .args .set .now)) (s .args .j) _ _ (c .before .pattern-start .ensures) (c .pattern-start2 .ensures)
 
 -- the parents lie in the table
-inside : (c : tie.After-pattern-start2) → c .pattern-start2 .result - c .before .pattern-start .result + c .before .before .pattern-length .result ≤ length (c .before .before .before .before .before .args .parents .now)
+inside : (c : tie.After-pattern-start2) →
+    let a = c .before .before .before .before .before .args in
+    c .pattern-start2 .result - c .before .pattern-start .result + c .before .before .pattern-length .result ≤ length (a .parents .now)
 inside c =
     let s = c .before .before .before .before .before in
     let ws = s .args .set .now in
     let k = s .pre .1 .0 .1 in
-    omega (arith, begins-at c, c .before .before .pattern-length .ensures, parents-fit (patternsOf ws) (s .args .parents .now) (s .pre .1 .1) (s .args .j) k (pattern-ge ws (s .pre .0) (s .args .j) k))
+    omega (
+      arith,
+      begins-at c,
+      c .before .before .pattern-length .ensures,
+      parents-fit (patternsOf ws) (s .args .parents .now) (s .pre .1 .1) (s .args .j) k
+          (pattern-ge ws (s .pre .0) (s .args .j) k),
+    )
 
 pattern-length-requires : tie.Need-pattern-length-requires
 pattern-length-requires c κs = search needs
@@ -43,7 +49,14 @@ add-e : tie.Need-add-e
 add-e c =
     let s = c .before .before .before .before .before in
     let ws = s .args .set .now in
-    omega (arith, begins-at c, c .before .before .pattern-length .ensures, offset-small ws (s .pre .0) (s .args .j), pattern-le ws (s .pre .0) (s .args .j) (s .pre .1 .0 .1))
+    omega (
+      arith,
+      begins-at c,
+      c .before .before .pattern-length .ensures,
+      offset-small ws (s .pre .0) (s .args .j),
+      pattern-le ws (s .pre .0) (s .args .j)
+          (s .pre .1 .0 .1),
+    )
 
 add-end : tie.Need-add-end
 add-end c = search needs
@@ -85,7 +98,8 @@ passes-requires c κs =
     let a = d .pattern-start2 .result - d .before .pattern-start .result in
     let m = d .before .before .pattern-length .result in
     let p = s .args .p in
-    check-fits (patternsOf (s .args .set .now)) (s .args .parents .now) (s .pre .1 .1) (s .args .j) (s .pre .1 .0 .1) (s .args .text .now) p a (a + m - a) (p + 1 - m) (p + 1 - (p + 1 - m)) (s .pre .1 .0 .2) (s .pre .1 .0 .0) (begins-at d) (omega arith) (omega arith) (omega arith)
+    check-fits (patternsOf (s .args .set .now)) (s .args .parents .now) (s .pre .1 .1) (s .args .j) (s .pre .1 .0 .1) (s .args .text .now) p a
+    (a + m - a) (p + 1 - m) (p + 1 - (p + 1 - m)) (s .pre .1 .0 .2) (s .pre .1 .0 .0) (begins-at d) (omega arith) (omega arith) (omega arith)
 
 returns : tie.Need-returns
 returns c =
@@ -97,7 +111,8 @@ returns c =
     let m = d .before .before .pattern-length .result in
     let p = s .args .p in
     c .passes .ensures
-    ∙ check-is (patternsOf ws) (s .args .parents .now) (s .pre .1 .1) (s .args .j) (s .pre .1 .0 .1) (s .args .text .now) p a (a + m - a) (p + 1 - m) (p + 1 - (p + 1 - m)) (s .pre .1 .0 .2) (s .pre .1 .0 .0) (begins-at d) (omega arith) (omega arith) (omega arith)
+    ∙ check-is (patternsOf ws) (s .args .parents .now) (s .pre .1 .1) (s .args .j) (s .pre .1 .0 .1) (s .args .text .now) p a (a + m - a) (p + 1 - m)
+    (p + 1 - (p + 1 - m)) (s .pre .1 .0 .2) (s .pre .1 .0 .0) (begins-at d) (omega arith) (omega arith) (omega arith)
     (pattern-realizable ws (s .pre .0) (s .args .j) (s .pre .1 .0 .1))
 
 pub has-hit-spec : {M : Type 1} → statement M

@@ -1,7 +1,5 @@
 -- Each way through the code is a clause of the new bit.
-use mathlib.Core.Path.{sym, _∙_}
-use native.Mathlib.Omega.{arith}
-use borrow.Author.Needs.{needs}
+use Rattle.lists.proofs.Prelude.{_∙_, sym, arith, needs}
 use Rattle.filter_windows.proofs.Rolling.{newBit-first, newBit-next}
 use Rattle.filter_windows.proofs.new_bit.Statement.{statement}
 use Rattle.filter_windows.proofs.new_bit.Tie as tie

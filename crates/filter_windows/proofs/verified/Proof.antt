@@ -1,18 +1,12 @@
--- The loop takes the likely ranks one by one, lowest first; what is found are those that it has taken and that passed the check.
-use mathlib.Core.Path.{_≡_, sym, _∙_, ap, subst}
-use mathlib.Core.Logic.{⊎-elim}
-use mathlib.Core.Bool.{Bool}
-use mathlib.Core.List.{[]}
-use Prim.Native.Nat.{ℕ, suc, _<_, _≤_}
-use lib.ListN.{length, getD, take}
-use lib.Seq.{length-take-le}
-use Rattle.set_access.specs.Patterns.{patternsOf}
-use Rattle.set_access.proofs.Laws.{good-set}
+-- The loop takes the likely ranks one by one, lowest first; what is found are those that it has
+-- taken and that passed the check.
+use Rattle.lists.proofs.Prelude.{_≡_, _∙_, ap, sym, subst, ⊎-elim, Bool, [], ℕ, suc, _≤_, _<_, length, getD, take, length-take-le, needs}
+use Rattle.pattern_set.specs.PatternSet.{patternsOf}
+use Rattle.pattern_set.proofs.IsSet.{set-good}
 use Rattle.bit_sets.specs.BitSets.{bitAt}
 use Rattle.filter_plan.specs.Plan.{hitOrder, isHit}
 use Rattle.filter_tables.specs.Tables.{ranked}
 use Rattle.filter_windows.proofs.RankSets.{Found, found-none, found-yes, found-no, found-all, lowest-in, likely-rank}
-use borrow.Author.Needs.{needs}
 use Rattle.filter_windows.proofs.verified.Statement.{statement}
 use Rattle.filter_windows.proofs.verified.Tie as tie
 
@@ -23,17 +17,27 @@ abbrev μ-loop : tie.MeasureT-loop
 μ-loop set text p likely numbers parents rest₀ found₀ rest found = rest
 
 -- the rank taken is that of a pattern whose window lies within the text
-rank : (c : tie.After-lowest Inv-loop μ-loop) → (c .lowest .result < length (patternsOf (c .before .before .before .before .before .args .set .now))) × (getD (hitOrder (patternsOf (c .before .before .before .before .before .args .set .now))) (c .lowest .result) 0 < length (patternsOf (c .before .before .before .before .before .args .set .now))) × (length (ranked (patternsOf (c .before .before .before .before .before .args .set .now)) (c .lowest .result)) ≤ suc (c .before .before .before .before .before .args .p))
+rank : (c : tie.After-lowest Inv-loop μ-loop) →
+    let a = c .before .before .before .before .before .args in
+    let ps = patternsOf (a .set .now) in
+    let r = c .lowest .result in
+    (r < length ps) × (getD (hitOrder ps) r 0 < length ps) × (length (ranked ps r) ≤ suc (a .p))
 rank c =
     let s = c .before .before .before .before .before in
     let a = s .args in
+    let ps = patternsOf (a .set .now) in
     let L = c .before .before .loop in
+    let r = c .lowest .result in
     let l = c .lowest .ensures in
-    let k = likely-rank (patternsOf (a .set .now)) (take (suc (a .p)) (a .text .now)) (a .likely) (c .lowest .result) (good-set (a .set .now) (s .pre .0)) (s .pre .1 .1 .0) (l .0) (L .inv (c .lowest .result) (l .0) .1 (lowest-in (L .rest) (c .lowest .result) (l .1))) in
-    (k .0, k .1, subst (λ (n : ℕ). length (ranked (patternsOf (a .set .now)) (c .lowest .result)) ≤ n) (length-take-le (suc (a .p)) (a .text .now) (s .pre .1 .0)) (k .2))
+    let isLikely = L .inv r (l .0) .1 (lowest-in (L .rest) r (l .1)) in
+    let k = likely-rank ps (take (suc (a .p)) (a .text .now)) (a .likely) r (set-good (a .set .now) (s .pre .0)) (s .pre .1 .1 .0) (l .0) isLikely in
+    (k .0, k .1, subst (λ (n : ℕ). length (ranked ps r) ≤ n) (length-take-le (suc (a .p)) (a .text .now) (s .pre .1 .0)) (k .2))
 
 -- its number is the one that the table has
-number : (c : tie.After-wide Inv-loop μ-loop) → c .wide .result ≡ getD (hitOrder (patternsOf (c .before .before .before .before .before .before .before .args .set .now))) (c .before .before .lowest .result) 0
+number : (c : tie.After-wide Inv-loop μ-loop) →
+    let l = c .before .before in
+    let a = l .before .before .before .before .before .args in
+    c .wide .result ≡ getD (hitOrder (patternsOf (a .set .now))) (l .lowest .result) 0
 number c =
     let s = c .before .before .before .before .before .before .before in
     c .wide .ensures ∙ s .pre .1 .1 .1 .ranks (c .before .before .lowest .result) (rank (c .before .before) .0)
@@ -57,8 +61,18 @@ has-hit-requires : tie.Need-has-hit-requires Inv-loop μ-loop
 has-hit-requires c κs =
     let s = c .before .before .before .before .before .before .before in
     let k = rank (c .before .before) in
-    let e = sym (number c) in
-    (s .pre .0, ((s .pre .1 .0, subst (λ (n : ℕ). n < length (patternsOf (s .args .set .now))) e (k .1), subst (λ (n : ℕ). length (getD (patternsOf (s .args .set .now)) n []) ≤ suc (s .args .p)) e (k .2)), s .pre .1 .1 .1 .parentLists))
+    let e = sym (number c) in (
+      s .pre .0,
+      (
+        (
+          s .pre .1 .0,
+          subst (λ (n : ℕ). n < length (patternsOf (s .args .set .now))) e (k .1),
+          subst
+              (λ (n : ℕ). length (getD (patternsOf (s .args .set .now)) n []) ≤ suc (s .args .p)) e (k .2),
+        ),
+        s .pre .1 .1 .1 .parentLists,
+      ),
+    )
 
 with-bit-requires : tie.Need-with-bit-requires Inv-loop μ-loop
 with-bit-requires c κs = search needs
@@ -75,14 +89,17 @@ loop-again c =
     let s = h .before .before .before .before .before .before .before .before in
     let a = s .args in
     let L = h .before .before .before .before .before .loop in
-    let lower = h .before .before .before .lowest in
-    let r = lower .result in
+    let least = h .before .before .before .lowest in
+    let r = least .result in
     let hit : ℕ → Bool = λ r. isHit (take (suc (a .p)) (a .text .now)) (ranked (patternsOf (a .set .now)) r) in
-    let e : hit r ≡ h .has-hit .result = sym (h .has-hit .ensures ∙ ap (λ (n : ℕ). isHit (take (suc (a .p)) (a .text .now)) (getD (patternsOf (a .set .now)) n [])) (number (h .before))) in
+    let e : hit r ≡ h .has-hit .result =
+    sym (h .has-hit .ensures ∙ ap (λ (n : ℕ). isHit (take (suc (a .p)) (a .text .now)) (getD (patternsOf (a .set .now)) n [])) (number (h .before))) in
     ⊎-elim
-    (λ w. found-yes (a .likely) (L .rest) (c .without-lowest .result) (L .found) (c .before .if1 .found) r hit (L .inv) (lower .ensures .1) (c .without-lowest .ensures .0) (e ∙ w .0 .taken)
+    (λ w. found-yes (a .likely) (L .rest) (c .without-lowest .result) (L .found) (c .before .if1 .found) r hit (L .inv)
+    (least .ensures .1) (c .without-lowest .ensures .0) (e ∙ w .0 .taken)
     (λ j l. ap (λ (x : ℕ). bitAt x j) (w .2) ∙ w .1 .ensures j l))
-    (λ w. found-no (a .likely) (L .rest) (c .without-lowest .result) (L .found) (c .before .if1 .found) r hit (L .inv) (lower .ensures .1) (c .without-lowest .ensures .0) (e ∙ w .0 .left) (w .1))
+    (λ w. found-no (a .likely) (L .rest) (c .without-lowest .result) (L .found) (c .before .if1 .found) r hit (L .inv)
+    (least .ensures .1) (c .without-lowest .ensures .0) (e ∙ w .0 .left) (w .1))
     (c .before .if1 .came)
 
 returns : tie.Need-returns Inv-loop μ-loop
@@ -90,8 +107,9 @@ returns c =
     let s = c .before .before .before .before in
     let a = s .args in
     let L = c .before .loop in
-    found-all (patternsOf (a .set .now)) (take (suc (a .p)) (a .text .now)) (a .likely) (L .found) (good-set (a .set .now) (s .pre .0)) (s .pre .1 .1 .0)
-    (subst (λ (n : ℕ). Found (a .likely) n (L .found) (λ r. isHit (take (suc (a .p)) (a .text .now)) (ranked (patternsOf (a .set .now)) r))) (c .loop-test .left) (L .inv))
+    found-all (patternsOf (a .set .now)) (take (suc (a .p)) (a .text .now)) (a .likely) (L .found) (set-good (a .set .now) (s .pre .0)) (s .pre .1 .1 .0)
+    (subst (λ (n : ℕ). Found (a .likely) n (L .found) (λ r. isHit (take (suc (a .p)) (a .text .now)) (ranked (patternsOf (a .set .now)) r)))
+    (c .loop-test .left) (L .inv))
 
 pub verified-spec : {M : Type 1} → statement M
 verified-spec =

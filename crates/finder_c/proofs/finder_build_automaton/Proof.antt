@@ -1,6 +1,5 @@
 -- `finder_build_automaton` answers what the entry answers, as numbers.
-use mathlib.Core.Path.{_∙_}
-use borrow.Author.Needs.{needs}
+use Rattle.lists.proofs.Prelude.{_∙_, needs}
 use Rattle.finder_c.proofs.finder_build_automaton.Statement.{statement}
 use Rattle.finder_c.proofs.finder_build_automaton.Tie as tie
 

@@ -1,6 +1,5 @@
 -- `finder_stream_search` answers what the entry answers, as numbers, and hands back its state.
-use mathlib.Core.Path.{_∙_}
-use borrow.Author.Needs.{needs}
+use Rattle.lists.proofs.Prelude.{_∙_, needs}
 use Rattle.finder_c.proofs.finder_stream_search.Statement.{statement}
 use Rattle.finder_c.proofs.finder_stream_search.Tie as tie
 

@@ -1,7 +1,5 @@
 -- `sized` tells what the answer tells.
-use mathlib.Core.Path.{_≡_, sym, _∙_, ap}
-use Prim.Native.Nat.{ℕ}
-use borrow.Author.Needs.{needs}
+use Rattle.lists.proofs.Prelude.{_∙_, ap, sym, ℕ, needs}
 use Rattle.answers.specs.Told.{toldSize}
 use Rattle.finder_c.proofs.sized.Statement.{statement}
 use Rattle.finder_c.proofs.sized.Tie as tie

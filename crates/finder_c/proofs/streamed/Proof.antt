@@ -1,7 +1,5 @@
 -- `streamed` tells what the answer tells, and hands the state on.
-use mathlib.Core.Path.{_≡_, refl, sym, _∙_, ap}
-use Prim.Native.Nat.{ℕ}
-use borrow.Author.Needs.{needs}
+use Rattle.lists.proofs.Prelude.{_∙_, ap, sym, refl, ℕ, needs}
 use Rattle.answers.specs.Told.{toldStreamed}
 use Rattle.finder_c.proofs.streamed.Statement.{statement}
 use Rattle.finder_c.proofs.streamed.Tie as tie

@@ -1,7 +1,5 @@
 -- `answer` is safe and ends. Each part lent is no longer than the array it is cut from.
-use native.Mathlib.Omega.{arith}
-use lib.ListN.{length-take}
-use borrow.Author.Needs.{needs}
+use Rattle.lists.proofs.Prelude.{length-take, arith, needs}
 use Rattle.hits.proofs.answer.Statement.{statement}
 use Rattle.hits.proofs.answer.Tie as tie
 

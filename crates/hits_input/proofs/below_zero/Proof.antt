@@ -1,9 +1,6 @@
 -- `below_zero` meets its contract.
-use lib.IntN.{negsuc}
-use mir.Syntax.{w32}
-use mir.ValLaws.{toZ-pos, toZ-ofZ}
+use Rattle.lists.proofs.Prelude.{negsuc, w32, toZ-ofZ, toZ-pos, needs}
 use Rattle.hits_input.proofs.Numbers.{minus-one-less}
-use borrow.Author.Needs.{needs}
 use Rattle.hits_input.proofs.below_zero.Statement.{statement}
 use Rattle.hits_input.proofs.below_zero.Tie as tie
 

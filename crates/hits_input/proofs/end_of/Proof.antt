@@ -1,11 +1,7 @@
 -- `end_of` meets its contract: no separator is passed over.
-use mathlib.Core.Path.{_≡_}
-use Prim.Native.Nat.{_+_, _-_, _≤_}
-use lib.ListN.{drop}
+use Rattle.lists.proofs.Prelude.{_≡_, _+_, _-_, _≤_, drop, arith, needs}
 use Rattle.hits_input.specs.Steps.{upTo}
 use Rattle.hits_input.proofs.Cutting.{upTo-here, upTo-next, upTo-end}
-use native.Mathlib.Omega.{arith}
-use borrow.Author.Needs.{needs}
 use Rattle.hits_input.proofs.end_of.Statement.{statement}
 use Rattle.hits_input.proofs.end_of.Tie as tie
 

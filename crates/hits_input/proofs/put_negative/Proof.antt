@@ -1,14 +1,7 @@
 -- `put_negative` meets its contract.
-use mathlib.Core.Path.{_≡_, refl, sym, _∙_, ap}
-use mathlib.Core.Option.{none, some}
-use lib.IntN.{pos}
-use lib.ListN.{set}
-use mir.Syntax.{w32}
-use mir.ValLaws.{toZ-ofZ}
+use Rattle.lists.proofs.Prelude.{_≡_, _∙_, ap, sym, refl, none, some, pos, set, arith, w32, toZ-ofZ, needs}
 use Rattle.hits_input.specs.Input.{readNumber, negative}
 use Rattle.hits_input.proofs.Numbers.{minus-good, minus-bad, negative-suc}
-use native.Mathlib.Omega.{arith}
-use borrow.Author.Needs.{needs}
 use Rattle.hits_input.proofs.put_negative.Statement.{statement}
 use Rattle.hits_input.proofs.put_negative.Tie as tie
 
@@ -47,7 +40,8 @@ returns-2 : tie.Need-returns-2
 returns-2 c =
     let st = c .before .before .before .before in
     let r = c .before .before .size-of in
-    let e : readNumber (st .args .part .now) ≡ some (negative (r .result)) = minus-good (st .args .part .now) (r .result) (st .pre .0) (st .pre .1) (r .ensures) (c .before .if1 .left) in
+    let e : readNumber (st .args .part .now) ≡ some (negative (r .result)) =
+    minus-good (st .args .part .now) (r .result) (st .pre .0) (st .pre .1) (r .ensures) (c .before .if1 .left) in
     let z : readNumber (st .args .part .now) ≡ some (pos 0) = e ∙ ap (λ n. some (negative n)) (c .if2 .taken) in
     (rw z refl, rw z refl)
 
@@ -58,8 +52,12 @@ returns-3 : tie.Need-returns-3
 returns-3 c =
     let st = c .before .before .before .before .before in
     let r = c .before .before .before .size-of in
-    let e : readNumber (st .args .part .now) ≡ some (negative (r .result)) = minus-good (st .args .part .now) (r .result) (st .pre .0) (st .pre .1) (r .ensures) (c .before .before .if1 .left) in
-    let v = toZ-ofZ w32 (c .below-zero .result) (record { sfits = c .below-zero .ok }) ∙ c .below-zero .ensures ∙ sym (negative-suc (r .result) (omega (arith, c .before .if2 .left))) in
+    let e : readNumber (st .args .part .now) ≡ some (negative (r .result)) =
+    minus-good (st .args .part .now) (r .result) (st .pre .0) (st .pre .1) (r .ensures) (c .before .before .if1 .left) in
+    let v =
+    toZ-ofZ w32 (c .below-zero .result) (record { sfits = c .below-zero .ok })
+    ∙ c .below-zero .ensures
+    ∙ sym (negative-suc (r .result) (omega (arith, c .before .if2 .left))) in
     (rw e refl, rw e (ap (set (st .args .out .now) (st .args .at)) v))
 
 pub put-negative-spec : {M : Type 1} → statement M

@@ -1,14 +1,7 @@
 -- `put_number` meets its contract.
-use mathlib.Core.Path.{_≡_, refl, ap}
-use mathlib.Core.Option.{none, some}
-use lib.IntN.{pos}
-use lib.ListN.{set}
-use mir.Syntax.{w32}
-use mir.ValLaws.{toZ-pos}
+use Rattle.lists.proofs.Prelude.{_≡_, ap, refl, none, some, pos, set, arith, w32, toZ-pos, needs}
 use Rattle.hits_input.specs.Input.{readNumber}
 use Rattle.hits_input.proofs.Numbers.{plain-good, plain-bad, empty-bad}
-use native.Mathlib.Omega.{arith}
-use borrow.Author.Needs.{needs}
 use Rattle.hits_input.proofs.put_number.Statement.{statement}
 use Rattle.hits_input.proofs.put_number.Tie as tie
 
@@ -37,7 +30,9 @@ returns-3 : tie.Need-returns-3
 returns-3 c =
     let st = c .before .before .before .before .before .before in
     let r = c .before .size-of in
-    let e : readNumber (st .args .part .now) ≡ none = plain-bad (st .args .part .now) (r .result) (omega (arith, c .before .before .before .before .if1 .left)) (c .before .before .if2 .left) (r .ensures) (c .if3 .taken) in
+    let e : readNumber (st .args .part .now) ≡ none =
+    plain-bad (st .args .part .now) (r .result) (omega (arith, c .before .before .before .before .if1 .left)) (c .before .before .if2 .left) (r .ensures)
+    (c .if3 .taken) in
     (rw e refl, rw e refl)
 
 cast-out : tie.Need-cast-out
@@ -56,7 +51,9 @@ returns-4 : tie.Need-returns-4
 returns-4 c =
     let st = c .before .before .before .before .before .before in
     let r = c .before .size-of in
-    let e : readNumber (st .args .part .now) ≡ some (pos (r .result)) = plain-good (st .args .part .now) (r .result) (omega (arith, c .before .before .before .before .if1 .left)) (c .before .before .if2 .left) (r .ensures) (c .if3 .left) in
+    let e : readNumber (st .args .part .now) ≡ some (pos (r .result)) =
+    plain-good (st .args .part .now) (r .result) (omega (arith, c .before .before .before .before .if1 .left)) (c .before .before .if2 .left) (r .ensures)
+    (c .if3 .left) in
     (rw e refl, rw e (ap (set (st .args .out .now) (st .args .at)) (toZ-pos w32 (r .result) (omega (arith, c .if3 .left)))))
 
 pub put-number-spec : {M : Type 1} → statement M

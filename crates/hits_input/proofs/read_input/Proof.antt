@@ -1,6 +1,6 @@
 -- `read_input` meets its contract.
+use Rattle.lists.proofs.Prelude.{needs}
 use Rattle.hits_input.proofs.Inputs.{too-long, no-patterns, no-text, all-read}
-use borrow.Author.Needs.{needs}
 use Rattle.hits_input.proofs.read_input.Statement.{statement}
 use Rattle.hits_input.proofs.read_input.Tie as tie
 
@@ -13,23 +13,23 @@ read-patterns-requires c κs = search needs
 
 returns-2 : tie.Need-returns-2
 returns-2 c =
-    let r = c .before .before .read-patterns in
-    no-patterns (c .before .before .before .before .before .before .before .args .bytes .now) (r .last .1 .0) (r .last .1 .1 .0) (r .result .count) (r .result .from) (c .before .before .before .before .before .if1 .left) (r .ensures) (c .if2 .taken)
+    let p = c .before .before in
+    no-patterns (p .before .before .before .if1 .left) (p .read-patterns .ensures) (c .if2 .taken)
 
 read-text-requires : tie.Need-read-text-requires
 read-text-requires c κs = search needs
 
 returns-3 : tie.Need-returns-3
 returns-3 c =
-    let r = c .before .before .before .before .before .read-patterns in
-    let t = c .before .read-text in
-    no-text (c .before .before .before .before .before .before .before .before .before .before .args .bytes .now) (r .last .1 .0) (r .last .1 .1 .0) (t .last .1 .1 .0) (r .result .count) (r .result .from) (t .result) (c .before .before .before .before .before .before .before .before .if1 .left) (r .ensures) (c .before .before .before .if2 .left) (t .ensures) (c .if3 .taken)
+    let t = c .before in
+    let p = t .before .before .before .before in
+    no-text (p .before .before .before .if1 .left) (p .read-patterns .ensures) (t .before .before .if2 .left) (t .read-text .ensures) (c .if3 .taken)
 
 returns-4 : tie.Need-returns-4
 returns-4 c =
-    let r = c .before .before .before .before .before .read-patterns in
-    let t = c .before .read-text in
-    all-read (c .before .before .before .before .before .before .before .before .before .before .args .bytes .now) (r .last .1 .0) (r .last .1 .1 .0) (t .last .1 .1 .0) (r .result .count) (r .result .from) (t .result) (c .before .before .before .before .before .before .before .before .if1 .left) (r .ensures) (c .before .before .before .if2 .left) (t .ensures) (c .if3 .left)
+    let t = c .before in
+    let p = t .before .before .before .before in
+    all-read (p .before .before .before .if1 .left) (p .read-patterns .ensures) (t .before .before .if2 .left) (t .read-text .ensures) (c .if3 .left)
 
 pub read-input-spec : {M : Type 1} → statement M
 read-input-spec =

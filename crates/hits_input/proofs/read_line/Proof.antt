@@ -1,6 +1,6 @@
 -- `read_line` meets its contract.
+use Rattle.lists.proofs.Prelude.{needs}
 use Rattle.hits_input.proofs.Lines.{line-empty, line-numbers}
-use borrow.Author.Needs.{needs}
 use Rattle.hits_input.proofs.read_line.Statement.{statement}
 use Rattle.hits_input.proofs.read_line.Tie as tie
 

@@ -1,11 +1,7 @@
--- `read_numbers` meets its contract: the numbers before the place reached lie in the array (`Filling`).
-use mathlib.Core.Path.{sym, _∙_}
-use Prim.Native.Nat.{_+_, _-_}
-use lib.ListN.{length}
-use borrow.Author.Tests.{not-true, not-false}
+-- `read_numbers` meets its contract: the numbers before the place reached lie in the array
+-- (`Filling`).
+use Rattle.lists.proofs.Prelude.{_∙_, sym, _+_, _-_, length, arith, not-false, not-true, needs}
 use Rattle.hits_input.proofs.Lines.{Filling, fill-start, fill-bad, fill-full, fill-more, fill-end}
-use native.Mathlib.Omega.{arith}
-use borrow.Author.Needs.{needs}
 use Rattle.hits_input.proofs.read_numbers.Statement.{statement}
 use Rattle.hits_input.proofs.read_numbers.Tie as tie
 
@@ -31,9 +27,8 @@ same-length c = search needs
 
 returns : tie.Need-returns Inv-loop μ-loop
 returns c =
-    let a = c .before .before .before .before .before .args in
-    let L = c .before .before .before .loop in
-    fill-full (a .line .now) (a .at) (a .out .now) (L .out) (L .from) (L .to) (c .before .end-of .result) (length (a .out .now) + 1) (L .inv) (c .before .before .loop-test .taken) (c .before .end-of .ensures .0) (c .if1 .taken) (omega arith)
+    let part = c .before in
+    fill-full (part .before .before .loop .inv) (part .before .loop-test .taken) (part .end-of .ensures .0) (c .if1 .taken) (omega arith)
 
 sub-put-number : tie.Need-sub-put-number Inv-loop μ-loop
 sub-put-number c = search needs
@@ -55,10 +50,9 @@ same-length-2 c = search needs
 
 returns-2 : tie.Need-returns-2 Inv-loop μ-loop
 returns-2 c =
-    let a = c .before .before .before .before .before .before .before .before .before .before .args in
-    let L = c .before .before .before .before .before .before .before .before .loop in
+    let part = c .before .before .before .before .before .before in
     let r = c .before .before .put-number in
-    fill-bad (a .line .now) (a .at) (a .out .now) (L .out) (L .from) (L .to) (c .before .before .before .before .before .before .end-of .result) (length (a .out .now) + 1) _ (L .inv) (c .before .before .before .before .before .before .before .loop-test .taken) (c .before .before .before .before .before .before .end-of .ensures .0)
+    fill-bad (part .before .before .loop .inv) (part .before .loop-test .taken) (part .end-of .ensures .0)
     (sym (r .ensures .0) ∙ not-true _ (c .if2 .taken)) (omega arith)
 
 add-to : tie.Need-add-to Inv-loop μ-loop
@@ -72,21 +66,18 @@ loop-less c = search needs
 
 loop-again : tie.Need-loop-again Inv-loop μ-loop
 loop-again c =
-    let a = c .before .before .before .before .before .before .before .before .before .before .args in
-    let L = c .before .before .before .before .before .before .before .before .loop in
-    let r = c .before .before .put-number in
-    let e = c .before .before .before .before .before .before .end-of in
-    fill-more (a .line .now) (a .at) (a .out .now) (L .out) (L .from) (L .to) (e .result) _ (L .inv) (c .before .before .before .before .before .before .before .loop-test .taken) (e .ensures .0)
-    (e .ensures .1 .1) (omega (arith, L .inv .room, L .inv .sized, c .before .before .before .before .before .if1 .left)) (sym (r .ensures .0) ∙ not-false _ (c .if2 .left)) (r .ensures .1)
+    let put = c .before .before in
+    let part = put .before .before .before .before in
+    let inv = part .before .before .loop .inv in
+    let e = part .end-of .ensures in
+    fill-more inv (part .before .loop-test .taken) (e .0) (e .1 .1) (omega (arith, inv .room, inv .sized, put .before .before .before .if1 .left))
+    (sym (put .put-number .ensures .0) ∙ not-false _ (c .if2 .left)) (put .put-number .ensures .1)
 
 same-length-3 : tie.Need-same-length-3 Inv-loop μ-loop
 same-length-3 c = search needs
 
 returns-3 : tie.Need-returns-3 Inv-loop μ-loop
-returns-3 c =
-    let a = c .before .before .before .args in
-    let L = c .before .loop in
-    fill-end (a .line .now) (a .at) (a .out .now) (L .out) (L .from) (L .to) (L .inv) (c .loop-test .left)
+returns-3 c = fill-end (c .before .loop .inv) (c .loop-test .left)
 
 pub read-numbers-spec : {M : Type 1} → statement M
 read-numbers-spec =

@@ -1,7 +1,5 @@
 -- `shifted` meets its contract.
-use mathlib.Core.Path.{refl}
-use borrow.Author.Tests.{le-leb, lt-leb}
-use borrow.Author.Needs.{needs}
+use Rattle.lists.proofs.Prelude.{refl, le-leb, lt-leb, needs}
 use Rattle.hits_input.proofs.shifted.Statement.{statement}
 use Rattle.hits_input.proofs.shifted.Tie as tie
 

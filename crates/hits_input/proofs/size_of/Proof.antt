@@ -1,17 +1,13 @@
--- `size_of` meets its contract: the size of all digits is what the digits left tell behind the size so far.
-use mathlib.Core.Path.{_≡_, sym, _∙_}
-use Prim.Native.Nat.{_-_, _≤_, _<_}
-use native.Mathlib.Numerals.{add-one}
-use lib.ListN.{drop, getD}
-use Rattle.hits_input.specs.Steps.{told, sizeOf}
-use Rattle.hits_input.proofs.Numbers.{digit-yes, digit-low, digit-high, told-next, told-no, told-end, sizeOf-some, sizeOf-none, next-lt}
-use native.Mathlib.Omega.{arith}
-use borrow.Author.Needs.{needs}
+-- `size_of` meets its contract: the size of all digits is what the digits left tell behind the size
+-- so far.
+use Rattle.lists.proofs.Prelude.{_≡_, _∙_, sym, _-_, _≤_, _<_, getD, drop, add-one, arith, needs}
+use Rattle.hits_input.specs.Steps.{sizeFrom, sizeOf}
+use Rattle.hits_input.proofs.Numbers.{digit-yes, digit-low, digit-high, sizeFrom-next, sizeFrom-no, sizeFrom-end, sizeOf-some, sizeOf-none, next-lt}
 use Rattle.hits_input.proofs.size_of.Statement.{statement}
 use Rattle.hits_input.proofs.size_of.Tie as tie
 
 abbrev Inv-loop : tie.InvT-loop
-Inv-loop part from n size₀ i₀ size i = (i ≤ n) × (size < 42949672960) × (sizeOf (drop from part) ≡ told size (drop i part))
+Inv-loop part from n size₀ i₀ size i = (i ≤ n) × (size < 42949672960) × (sizeOf (drop from part) ≡ sizeFrom size (drop i part))
 
 abbrev μ-loop : tie.MeasureT-loop
 μ-loop part from n size₀ i₀ size i = n - i
@@ -33,13 +29,13 @@ returns-2 : tie.Need-returns-2 Inv-loop μ-loop
 returns-2 c =
     let a = c .before .before .before .before .before .before .args in
     let L = c .before .before .before .loop in
-    sym (L .inv .2 ∙ told-no (L .size) (a .part .now) (L .i) (omega arith) (digit-low (getD (a .part .now) (L .i) 0) (c .if2 .taken)))
+    sym (L .inv .2 ∙ sizeFrom-no (L .size) (a .part .now) (L .i) (omega arith) (digit-low (getD (a .part .now) (L .i) 0) (c .if2 .taken)))
 
 returns-3 : tie.Need-returns-3 Inv-loop μ-loop
 returns-3 c =
     let a = c .before .before .before .before .before .before .before .args in
     let L = c .before .before .before .before .loop in
-    sym (L .inv .2 ∙ told-no (L .size) (a .part .now) (L .i) (omega arith) (digit-high (getD (a .part .now) (L .i) 0) (c .if3 .taken)))
+    sym (L .inv .2 ∙ sizeFrom-no (L .size) (a .part .now) (L .i) (omega arith) (digit-high (getD (a .part .now) (L .i) 0) (c .if3 .taken)))
 
 shifted-requires : tie.Need-shifted-requires Inv-loop μ-loop
 shifted-requires c κs = search needs
@@ -58,14 +54,14 @@ loop-again c =
     let t = digit-yes d (c .before .before .if2 .left) (c .before .if3 .left) in (
       omega arith,
       rw (c .shifted .ensures) (next-lt (L .size) d (L .inv .1) (c .before .if3 .left)),
-      L .inv .2 ∙ (rw (c .shifted .ensures, add-one) (told-next (L .size) (a .part .now) (L .i) (omega arith) t)),
+      L .inv .2 ∙ (rw (c .shifted .ensures, add-one) (sizeFrom-next (L .size) (a .part .now) (L .i) (omega arith) t)),
     )
 
 returns-4 : tie.Need-returns-4 Inv-loop μ-loop
 returns-4 c =
     let a = c .before .before .before .before .args in
     let L = c .before .loop in
-    sym (L .inv .2 ∙ told-end (L .size) (a .part .now) (L .i) (omega arith))
+    sym (L .inv .2 ∙ sizeFrom-end (L .size) (a .part .now) (L .i) (omega arith))
 
 pub size-of-spec : {M : Type 1} → statement M
 size-of-spec =

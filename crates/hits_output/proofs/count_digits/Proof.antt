@@ -1,7 +1,6 @@
--- `count_digits` meets its contract: the digits of what is left and those counted are all (`Counted`). The measure is what is left.
-use native.Mathlib.Omega.{arith}
-use lib.ListN.{length}
-use borrow.Author.Needs.{needs}
+-- `count_digits` meets its contract: the digits of what is left and those counted are all
+-- (`Counted`). The measure is what is left.
+use Rattle.lists.proofs.Prelude.{length, arith, needs}
 use Rattle.hits_output.specs.Output.{digits}
 use Rattle.hits_output.proofs.Digits.{Counted, counted-start, counted-more, counted-few, counted-end}
 use Rattle.hits_output.proofs.count_digits.Statement.{statement}

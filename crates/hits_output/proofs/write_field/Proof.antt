@@ -1,13 +1,7 @@
 -- `write_field` meets its contract: the byte is stored behind the digits (`put-behind`).
-use mathlib.Core.Path.{_∙_, ap}
-use mathlib.Core.List.{List}
-use Prim.Native.Nat.{ℕ}
-use native.Mathlib.Omega.{arith}
-use lib.ListN.{set}
-use borrow.Author.Needs.{needs}
-use Rattle.lists.proofs.Lists.{length-snoc}
+use Rattle.lists.proofs.Prelude.{_∙_, ap, List, ℕ, set, arith, needs}
+use Rattle.lists.proofs.Parts.{length-snoc, put-behind}
 use Rattle.hits_output.specs.Output.{digits}
-use Rattle.hits_output.proofs.Lines.{put-behind}
 use Rattle.hits_output.proofs.write_field.Statement.{statement}
 use Rattle.hits_output.proofs.write_field.Tie as tie
 

@@ -1,11 +1,7 @@
--- `write_hit` meets its contract: the line of the place, the number and the pattern's length is that of the hit (`hitLine-is`).
-use mathlib.Core.Path.{_∙_, ap}
-use mathlib.Core.List.{List, _++_}
-use Prim.Native.Nat.{ℕ, _+_, _*_}
-use native.Mathlib.Omega.{arith}
-use lib.ListN.{length, drop}
-use borrow.Author.Needs.{needs}
-use Rattle.set_access.specs.Patterns.{patternsOf}
+-- `write_hit` meets its contract: the line of the place, the number and the pattern's length is
+-- that of the hit (`hitLine-is`).
+use Rattle.lists.proofs.Prelude.{_∙_, ap, List, _++_, ℕ, _+_, _*_, length, drop, arith, needs}
+use Rattle.pattern_set.specs.PatternSet.{patternsOf}
 use Rattle.hits_output.specs.Output.{hitIn}
 use Rattle.hits_output.proofs.Lines.{hitLine-is}
 use Rattle.hits_output.proofs.write_hit.Statement.{statement}
@@ -53,7 +49,8 @@ returns c =
     let q = p .before .before in
     let s = q .before .before .before .before .before .before in
     let w = p .write-line in
-    let e = hitLine-is (patternsOf (s .args .set .now)) (hitIn (s .args .hits .now) (s .args .i)) (q .pattern-length .result) (q .pattern-length .ensures) in (
+    let e =
+    hitLine-is (patternsOf (s .args .set .now)) (hitIn (s .args .hits .now) (s .args .i)) (q .pattern-length .result) (q .pattern-length .ensures) in (
       (w .ensures .0 .0 ∙ ap length e, w .ensures .0 .1),
       w .ensures .1 ∙ ap (λ (l : List ℕ). l ++ drop (length l) (s .args .out .now)) e,
     )

@@ -1,6 +1,6 @@
--- `write_line` meets its contract: the three numbers with the bytes behind them are the line (`line-written`).
-use native.Mathlib.Omega.{arith}
-use borrow.Author.Needs.{needs}
+-- `write_line` meets its contract: the three numbers with the bytes behind them are the line
+-- (`line-written`).
+use Rattle.lists.proofs.Prelude.{arith, needs}
 use Rattle.hits_output.proofs.Lines.{line-written}
 use Rattle.hits_output.proofs.write_line.Statement.{statement}
 use Rattle.hits_output.proofs.write_line.Tie as tie

@@ -1,21 +1,31 @@
--- `write_lines` meets its contract: after i turns the lines of i hits stand at the front of the buffer. The measure is what is left of the hits.
-use mathlib.Core.Path.{_≡_, refl, _∙_, ap}
-use mathlib.Core.List.{List, _++_}
-use Prim.Native.Nat.{ℕ, _-_, _*_, _≤_}
-use native.Mathlib.Omega.{arith}
-use lib.ListN.{length, drop, length-take, length-drop}
-use borrow.Author.Needs.{needs}
+-- `write_lines` meets its contract: after i turns the lines of i hits stand at the front of the
+-- buffer. The measure is what is left of the hits.
 use borrow.Rule.Slice.PartMut.{same-len-mid}
-use Rattle.set_access.specs.Patterns.{patternsOf}
+use Rattle.lists.proofs.Prelude.{_≡_, _∙_, ap, refl, List, _++_, ℕ, _-_, _*_, _≤_, length, drop, length-take, length-drop, arith, needs}
+use Rattle.pattern_set.specs.PatternSet.{patternsOf}
 use Rattle.hits_output.specs.Output.{hitLines, hitsIn}
 use Rattle.hits_output.proofs.Lines.{lines-start, lines-written}
 use Rattle.hits_output.proofs.write_lines.Statement.{statement}
 use Rattle.hits_output.proofs.write_lines.Tie as tie
 
+-- the lines of the first i hits
+abbrev lines : List ℕ → List ℕ → ℕ → List ℕ
+lines set hits i = hitLines (patternsOf set) (hitsIn hits i)
+
+-- after i turns
+record Writing (set hits : List ℕ) (count : ℕ) (before out : List ℕ) (at i : ℕ) : Type 0 where
+  -- there are hits left, or all are written
+  pub within : i ≤ count
+  -- a line has at most 63 bytes
+  pub short : at ≤ 63 * i
+  -- the buffer is as long as it was
+  pub sized : length out ≡ length before
+  -- it begins with the lines of i hits, which end at place `at`, and the rest is as it was
+  pub place : at ≡ length (lines set hits i)
+  pub text : out ≡ lines set hits i ++ drop (length (lines set hits i)) before
+
 abbrev Inv-loop : tie.InvT-loop
-Inv-loop set hits count out₀ at₀ i₀ out at i =
-    (i ≤ count) × (at ≤ 63 * i) × (length out ≡ length out₀) × (at ≡ length (hitLines (patternsOf set) (hitsIn hits i)))
-    × (out ≡ hitLines (patternsOf set) (hitsIn hits i) ++ drop (length (hitLines (patternsOf set) (hitsIn hits i))) out₀)
+Inv-loop set hits count out₀ at₀ i₀ out at i = Writing set hits count out₀ out at i
 
 abbrev μ-loop : tie.MeasureT-loop
 μ-loop set hits count out₀ at₀ i₀ out at i = count - i
@@ -24,7 +34,7 @@ loop-holds : tie.Need-loop-holds Inv-loop μ-loop
 loop-holds c =
     let s = c .before .before .before in
     let l = lines-start (patternsOf (s .args .set .now)) (s .args .hits .now) (s .args .out .now) in
-    (omega arith, omega arith, refl, l .0, l .1)
+    record { within = omega arith; short = omega arith; sized = refl; place = l .0; text = l .1 }
 
 sub-write-hit : tie.Need-sub-write-hit Inv-loop μ-loop
 sub-write-hit c = search needs
@@ -59,13 +69,14 @@ loop-again c =
     let y = r .last .1 .1 .1 .0 in
     let l =
     lines-written (patternsOf (s .args .set .now)) (s .args .hits .now) (L .i) (L .at) (r .result) (s .args .out .now) (L .out) y
-    (L .inv .3) (L .inv .4) (r .ensures .0 .0) (r .ensures .1) in (
-      omega arith,
-      omega (arith, r .ensures .0 .1),
-      same-len-mid (L .at) (length (L .out) - L .at) (L .out) y (r .kept .1 .1 .1 .0) ∙ L .inv .2,
-      l .0,
-      l .1,
-    )
+    (L .inv .place) (L .inv .text) (r .ensures .0 .0) (r .ensures .1) in
+    record {
+      within = omega arith;
+      short = omega (arith, r .ensures .0 .1, L .inv .short);
+      sized = same-len-mid (L .at) (length (L .out) - L .at) (L .out) y (r .kept .1 .1 .1 .0) ∙ L .inv .sized;
+      place = l .0;
+      text = l .1;
+    }
 
 same-length : tie.Need-same-length Inv-loop μ-loop
 same-length c = search needs
@@ -75,9 +86,9 @@ returns c =
     let s = c .before .before .before .before .before in
     let L = c .before .loop in
     let e : L .i ≡ s .args .count = omega arith in
-    let ls : ℕ → List ℕ = λ (n : ℕ). hitLines (patternsOf (s .args .set .now)) (hitsIn (s .args .hits .now) n) in (
-      (L .inv .3 ∙ ap (λ (n : ℕ). length (ls n)) e, omega arith),
-      L .inv .4 ∙ ap (λ (n : ℕ). ls n ++ drop (length (ls n)) (s .args .out .now)) e,
+    let ls : ℕ → List ℕ = lines (s .args .set .now) (s .args .hits .now) in (
+      (L .inv .place ∙ ap (λ (n : ℕ). length (ls n)) e, omega (arith, L .inv .short)),
+      L .inv .text ∙ ap (λ (n : ℕ). ls n ++ drop (length (ls n)) (s .args .out .now)) e,
     )
 
 pub write-lines-spec : {M : Type 1} → statement M

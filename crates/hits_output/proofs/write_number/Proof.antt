@@ -1,11 +1,7 @@
--- `write_number` meets its contract: the digits that are still to be written and what stands behind them are the digits and what stood behind those.
--- The measure is the number of digits still to be written.
-use mathlib.Core.Path.{_≡_, refl, _∙_}
-use mathlib.Core.List.{_++_}
-use Prim.Native.Nat.{_-_, _≤_}
-use native.Mathlib.Omega.{arith}
-use lib.ListN.{length, drop, length-set}
-use borrow.Author.Needs.{needs}
+-- `write_number` meets its contract: the digits that are still to be written and what stands behind
+-- them are the digits and what stood behind those. The measure is the number of digits still to be
+-- written.
+use Rattle.lists.proofs.Prelude.{_≡_, _∙_, refl, _++_, _-_, _≤_, length, drop, length-set, arith, needs}
 use Rattle.hits_output.specs.Output.{digits}
 use Rattle.hits_output.proofs.Digits.{lastDigits, spell-start, spell-more, spell-end}
 use Rattle.hits_output.proofs.write_number.Statement.{statement}

@@ -1,8 +1,6 @@
--- `is_old` meets its contract: the sum does not overflow, and on each way the test taken is that of the definition.
-use Prim.Native.Nat.{_+_}
-use mathlib.Core.Path.{refl}
-use borrow.Author.Tests.{le-leb, lt-leb}
-use borrow.Author.Needs.{needs}
+-- `is_old` meets its contract: the sum does not overflow, and on each way the test taken is that of
+-- the definition.
+use Rattle.lists.proofs.Prelude.{refl, _+_, le-leb, lt-leb, needs}
 use Rattle.open_minima.proofs.is_old.Statement.{statement}
 use Rattle.open_minima.proofs.is_old.Tie as tie
 

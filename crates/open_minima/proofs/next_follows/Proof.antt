@@ -1,6 +1,8 @@
--- `next_follows` meets its contract: the two slots compared are those of open minimum i and the next.
+-- `next_follows` meets its contract: the two slots compared are those of open minimum i and the
+-- next.
+use Rattle.lists.proofs.Prelude.{needs}
+use Rattle.open_minima.specs.Parts.{ringAt}
 use Rattle.open_minima.proofs.Ways.{follows-not, follows-is}
-use borrow.Author.Needs.{needs}
 use Rattle.open_minima.proofs.next_follows.Statement.{statement}
 use Rattle.open_minima.proofs.next_follows.Tie as tie
 
@@ -27,16 +29,20 @@ element-copy-out-if1-2 c = search needs
 
 returns : tie.Need-returns
 returns c =
-    let a = c .before .before .before .before .before .args in
-    follows-not (a .first) (a .places .now) (a .values .now) (a .i) _ _ (c .before .before .before .before .slot-of .ensures) (c .before .before .before .slot-of2 .ensures) (c .if1 .taken)
+    let second = c .before .before .before in
+    let a = second .before .before .args in
+    follows-not (ringAt (a .minima) (a .first) (a .places .now) (a .heights .now)) (a .i) _ _ (second .before .slot-of .ensures)
+    (second .slot-of2 .ensures) (c .if1 .taken)
 
 not-lower-requires : tie.Need-not-lower-requires
 not-lower-requires c κs = search needs
 
 returns-2 : tie.Need-returns-2
 returns-2 c =
-    let a = c .before .before .before .before .before .before .args in
-    follows-is (a .first) (a .places .now) (a .values .now) (a .i) _ _ _ (c .before .before .before .before .before .slot-of .ensures) (c .before .before .before .before .slot-of2 .ensures) (c .before .if1 .left) (c .not-lower .ensures)
+    let second = c .before .before .before .before in
+    let a = second .before .before .args in
+    follows-is (ringAt (a .minima) (a .first) (a .places .now) (a .heights .now)) (a .i) _ _ _ (second .before .slot-of .ensures)
+    (second .slot-of2 .ensures) (c .before .if1 .left) (c .not-lower .ensures)
 
 pub next-follows-spec : {M : Type 1} → statement M
 next-follows-spec =

@@ -1,8 +1,5 @@
 -- `place_at` meets its contract: the slot read is that of open minimum i.
-use Prim.Native.Nat.{ℕ}
-use mathlib.Core.Path.{ap}
-use lib.ListN.{getD}
-use borrow.Author.Needs.{needs}
+use Rattle.lists.proofs.Prelude.{ap, ℕ, getD, needs}
 use Rattle.open_minima.proofs.place_at.Statement.{statement}
 use Rattle.open_minima.proofs.place_at.Tie as tie
 

@@ -1,13 +1,9 @@
--- `decode` meets its contract: each refusal is that of the first condition met, before anything is written, and the words are the digits that
--- `digits_of` writes.
-use mathlib.Core.Path.{sym, _∙_}
-use native.Mathlib.Omega.{arith}
-use borrow.Author.Needs.{needs}
-use borrow.Author.Tests.{not-true, not-false}
-use lib.ListN.{length}
+-- `decode` meets its contract: each refusal is that of the first condition met, before anything is
+-- written, and the words are the digits that `digits_of` writes.
+use Rattle.lists.proofs.Prelude.{_∙_, sym, arith, not-false, not-true, needs}
 use Rattle.answers.specs.declared.Refusal.{Refusal}
 use Rattle.ranking.proofs.Rank.{length-unrank}
-use Rattle.model.specs.Entries.{decodeEntry}
+use Rattle.entries.specs.Entries.{decodeEntry}
 use Rattle.pattern.proofs.Laws.{refused, written, decode-empty, decode-code-too-long, decode-not-realizable, decode-array-too-short, decode-good}
 use Rattle.pattern.proofs.decode.Statement.{statement}
 use Rattle.pattern.proofs.decode.Tie as tie
@@ -20,7 +16,8 @@ returns c =
 returns-2 : tie.Need-returns-2
 returns-2 c =
     let a = c .before .before .before .args in
-    refused Refusal.CodeTooLong (decodeEntry (a .n) (a .code) (a .out .now)) (a .out .now) (decode-code-too-long (a .n) (a .code) (a .out .now) (c .before .if1 .left) (omega arith))
+    refused Refusal.CodeTooLong (decodeEntry (a .n) (a .code) (a .out .now)) (a .out .now)
+    (decode-code-too-long (a .n) (a .code) (a .out .now) (c .before .if1 .left) (omega arith))
 
 is-rank-requires : tie.Need-is-rank-requires
 is-rank-requires c κs = search needs
@@ -30,7 +27,8 @@ returns-3 c =
     let e = c .before .before in
     let a = e .before .before .before .args in
     refused Refusal.NotRealizable (decodeEntry (a .n) (a .code) (a .out .now)) (a .out .now)
-    (decode-not-realizable (a .n) (a .code) (a .out .now) (e .before .if1 .left) (e .if2 .left) (sym (c .before .is-rank .ensures) ∙ not-true _ (c .if3 .taken)))
+    (decode-not-realizable (a .n) (a .code) (a .out .now) (e .before .if1 .left) (e .if2 .left)
+    (sym (c .before .is-rank .ensures) ∙ not-true _ (c .if3 .taken)))
 
 returns-4 : tie.Need-returns-4
 returns-4 c =

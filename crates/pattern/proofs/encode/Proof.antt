@@ -1,10 +1,8 @@
--- `encode` meets its contract: each refusal is that of the first condition met, and the code is the one that `rank_of` finds.
-use mathlib.Core.Path.{sym, _∙_}
-use native.Mathlib.Omega.{arith}
-use borrow.Author.Needs.{needs}
-use borrow.Author.Tests.{not-true, not-false}
+-- `encode` meets its contract: each refusal is that of the first condition met, and the code is the
+-- one that `rank_of` finds.
+use Rattle.lists.proofs.Prelude.{_∙_, sym, arith, not-false, not-true, needs}
 use Rattle.answers.specs.declared.Refusal.{Refusal}
-use Rattle.model.specs.Entries.{encodeEntry}
+use Rattle.entries.specs.Entries.{encodeEntry}
 use Rattle.pattern.proofs.Laws.{tells-refused, tells, encode-empty, encode-too-long, encode-code-too-long, encode-not-realizable, encode-good}
 use Rattle.pattern.proofs.encode.Statement.{statement}
 use Rattle.pattern.proofs.encode.Tie as tie
@@ -13,12 +11,15 @@ returns : tie.Need-returns
 returns c = tells-refused Refusal.Empty (encodeEntry (c .before .before .args .ds .now)) (encode-empty (c .before .before .args .ds .now) (c .if1 .taken))
 
 returns-2 : tie.Need-returns-2
-returns-2 c = tells-refused Refusal.TooLong (encodeEntry (c .before .before .before .args .ds .now)) (encode-too-long (c .before .before .before .args .ds .now) (c .before .if1 .left) (omega arith))
+returns-2 c =
+    tells-refused Refusal.TooLong (encodeEntry (c .before .before .before .args .ds .now))
+    (encode-too-long (c .before .before .before .args .ds .now) (c .before .if1 .left) (omega arith))
 
 returns-3 : tie.Need-returns-3
 returns-3 c =
     let e = c .before in
-    tells-refused Refusal.CodeTooLong (encodeEntry (e .before .before .before .args .ds .now)) (encode-code-too-long (e .before .before .before .args .ds .now) (e .before .if1 .left) (e .if2 .left) (omega arith))
+    tells-refused Refusal.CodeTooLong (encodeEntry (e .before .before .before .args .ds .now))
+    (encode-code-too-long (e .before .before .before .args .ds .now) (e .before .if1 .left) (e .if2 .left) (omega arith))
 
 is-realizable-requires : tie.Need-is-realizable-requires
 is-realizable-requires c κs = search needs
@@ -41,7 +42,8 @@ returns-5 c =
     let k = c .before .before in
     let g = k .before in
     let e = g .before in
-    tells (encodeEntry (e .before .before .before .args .ds .now)) _ (encode-good (e .before .before .before .args .ds .now) (e .before .if1 .left) (e .if2 .left) (g .if3 .left)
+    tells (encodeEntry (e .before .before .before .args .ds .now)) _
+    (encode-good (e .before .before .before .args .ds .now) (e .before .if1 .left) (e .if2 .left) (g .if3 .left)
     (sym (k .is-realizable .ensures) ∙ not-false _ (c .before .if4 .left))) (c .rank-of .ensures)
 
 pub encode-spec : {M : Type 1} → statement M

@@ -1,10 +1,10 @@
--- `failure_lengths` meets its contract: where the check of the list refuses, nothing is written; else the list is realizable, and the words are those that
--- `compute_failures::failure_lengths` writes.
-use borrow.Author.Needs.{needs}
-use lib.ListN.{length}
+-- `failure_lengths` meets its contract: where the check of the list refuses, nothing is written;
+-- else the list is realizable, and the words are those that `compute_failures::failure_lengths`
+-- writes.
+use Rattle.lists.proofs.Prelude.{length, needs}
 use Rattle.realization.specs.Realization.{failureLengths}
-use Rattle.model.specs.Entries.{listEntry}
-use Rattle.pattern.proofs.Laws.{refused, written, checked-refused, checked-good, list-unmet, length-failureLengths}
+use Rattle.entries.specs.Entries.{listEntry}
+use Rattle.pattern.proofs.Laws.{refused, written, checked-refused, checked-accepted, list-unmet, length-failureLengths}
 use Rattle.pattern.proofs.failure_lengths.Statement.{statement}
 use Rattle.pattern.proofs.failure_lengths.Tie as tie
 
@@ -21,13 +21,14 @@ failure-lengths-requires : tie.Need-failure-lengths-requires
 failure-lengths-requires c κs =
     let q = c .before .before .before in
     let a = q .before .before .before .args in
-    list-unmet (a .ds .now) (length (a .out .now)) (checked-good _ _ (q .check-list .ensures) (c .before .enum-told .given .1))
+    list-unmet (a .ds .now) (length (a .out .now)) (checked-accepted _ _ (q .check-list .ensures) (c .before .enum-told .given .1))
 
 returns : tie.Need-returns
 returns c =
     let q = c .before .before .before in
     let a = q .before .before .before .args in
-    refused (c .before .checked .given .0 .0) (listEntry failureLengths (a .ds .now) (a .out .now)) (a .out .now) (checked-refused _ _ _ (q .check-list .ensures) (c .before .checked .given .1))
+    refused (c .before .checked .given .0 .0) (listEntry failureLengths (a .ds .now) (a .out .now)) (a .out .now)
+    (checked-refused _ _ _ (q .check-list .ensures) (c .before .checked .given .1))
 
 same-length : tie.Need-same-length
 same-length c = search needs
@@ -37,7 +38,7 @@ returns-2 c =
     let w = c .before .before in
     let q = w .before .before .before .before in
     let a = q .before .before .before .args in
-    let e = checked-good _ _ (q .check-list .ensures) (w .before .before .enum-told .given .1) in
+    let e = checked-accepted _ _ (q .check-list .ensures) (w .before .before .enum-told .given .1) in
     written (listEntry failureLengths (a .ds .now) (a .out .now)) (a .out .now) _ e (length-failureLengths (a .ds .now)) (w .failure-lengths .ensures)
 
 pub failure-lengths-spec : {M : Type 1} → statement M

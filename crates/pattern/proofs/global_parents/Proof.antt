@@ -1,13 +1,13 @@
--- `global_parents` meets its contract: where the check of the list refuses, nothing is written; else the list is realizable, and the words are those that
--- `compute_parents::global_parents` writes.
-use borrow.Author.Needs.{needs}
-use lib.ListN.{length}
+-- `global_parents` meets its contract: where the check of the list refuses, nothing is written;
+-- else the list is realizable, and the words are those that `compute_parents::global_parents`
+-- writes.
+use Rattle.lists.proofs.Prelude.{length, needs}
 use Rattle.global_parents.specs.GlobalParents.{globalParents}
-use Rattle.model.specs.Entries.{listEntry}
-use Rattle.pattern.proofs.Laws.{refused, written, checked-refused, checked-good, list-unmet}
+use Rattle.entries.specs.Entries.{listEntry}
+use Rattle.global_parents.proofs.Parents.{length-globalParents}
+use Rattle.pattern.proofs.Laws.{refused, written, checked-refused, checked-accepted, list-unmet}
 use Rattle.pattern.proofs.global_parents.Statement.{statement}
 use Rattle.pattern.proofs.global_parents.Tie as tie
-use Rattle.global_parents.proofs.Parents.{length-globalParents}
 
 check-list-requires : tie.Need-check-list-requires
 check-list-requires c κs = search needs
@@ -22,13 +22,14 @@ global-parents-requires : tie.Need-global-parents-requires
 global-parents-requires c κs =
     let q = c .before .before .before in
     let a = q .before .before .before .args in
-    list-unmet (a .ds .now) (length (a .out .now)) (checked-good _ _ (q .check-list .ensures) (c .before .enum-told .given .1))
+    list-unmet (a .ds .now) (length (a .out .now)) (checked-accepted _ _ (q .check-list .ensures) (c .before .enum-told .given .1))
 
 returns : tie.Need-returns
 returns c =
     let q = c .before .before .before in
     let a = q .before .before .before .args in
-    refused (c .before .checked .given .0 .0) (listEntry globalParents (a .ds .now) (a .out .now)) (a .out .now) (checked-refused _ _ _ (q .check-list .ensures) (c .before .checked .given .1))
+    refused (c .before .checked .given .0 .0) (listEntry globalParents (a .ds .now) (a .out .now)) (a .out .now)
+    (checked-refused _ _ _ (q .check-list .ensures) (c .before .checked .given .1))
 
 same-length : tie.Need-same-length
 same-length c = search needs
@@ -38,7 +39,7 @@ returns-2 c =
     let w = c .before .before in
     let q = w .before .before .before .before in
     let a = q .before .before .before .args in
-    let e = checked-good _ _ (q .check-list .ensures) (w .before .before .enum-told .given .1) in
+    let e = checked-accepted _ _ (q .check-list .ensures) (w .before .before .enum-told .given .1) in
     written (listEntry globalParents (a .ds .now) (a .out .now)) (a .out .now) _ e (length-globalParents (a .ds .now)) (w .global-parents .ensures)
 
 pub global-parents-spec : {M : Type 1} → statement M

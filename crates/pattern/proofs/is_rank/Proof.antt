@@ -1,7 +1,6 @@
--- `is_rank` meets its contract: a code is a rank where it is below the factorial of the length and its digits are realizable.
-use native.Mathlib.Omega.{arith}
-use borrow.Author.Needs.{needs}
-use lib.ListN.{length-take}
+-- `is_rank` meets its contract: a code is a rank where it is below the factorial of the length and
+-- its digits are realizable.
+use Rattle.lists.proofs.Prelude.{length-take, arith, needs}
 use Rattle.pattern.proofs.Laws.{not-rank, is-rank-by}
 use Rattle.pattern.proofs.is_rank.Statement.{statement}
 use Rattle.pattern.proofs.is_rank.Tie as tie
@@ -30,7 +29,8 @@ is-realizable-requires c κs = search needs
 returns-2 : tie.Need-returns-2
 returns-2 c =
     let d = c .before .before .before in
-    is-rank-by _ _ _ (d .before .before .before .factorial-at .ensures) _ _ _ (d .before .before .if1 .left) (d .digits-of .ensures) (c .is-realizable .ensures)
+    is-rank-by _ _ _ (d .before .before .before .factorial-at .ensures) _ _ _ (d .before .before .if1 .left) (d .digits-of .ensures)
+    (c .is-realizable .ensures)
 
 pub is-rank-spec : {M : Type 1} → statement M
 is-rank-spec =

@@ -1,10 +1,11 @@
--- `least_realization` meets its contract: where the check of the list refuses, nothing is written; else the list is realizable, and the values are those that
+-- `least_realization` meets its contract: where the check of the list refuses, nothing is written;
+-- else the list is realizable, and the values are those that
 -- `compute_realization::least_realization` writes.
-use borrow.Author.Needs.{needs}
-use lib.ListN.{length}
+use Rattle.lists.proofs.Prelude.{length, needs}
+use Rattle.realization.proofs.LeastRealization.{length-leastRealization}
 use Rattle.realization.specs.Realization.{leastRealization}
-use Rattle.model.specs.Entries.{listEntry}
-use Rattle.pattern.proofs.Laws.{refused, written, checked-refused, checked-good, list-unmet, length-leastRealization}
+use Rattle.entries.specs.Entries.{listEntry}
+use Rattle.pattern.proofs.Laws.{refused, written, checked-refused, checked-accepted, list-unmet}
 use Rattle.pattern.proofs.least_realization.Statement.{statement}
 use Rattle.pattern.proofs.least_realization.Tie as tie
 
@@ -21,13 +22,14 @@ least-realization-requires : tie.Need-least-realization-requires
 least-realization-requires c κs =
     let q = c .before .before .before in
     let a = q .before .before .args in
-    list-unmet (a .ds .now) (length (a .out .now)) (checked-good _ _ (q .check-list .ensures) (c .before .enum-told .given .1))
+    list-unmet (a .ds .now) (length (a .out .now)) (checked-accepted _ _ (q .check-list .ensures) (c .before .enum-told .given .1))
 
 returns : tie.Need-returns
 returns c =
     let q = c .before .before .before in
     let a = q .before .before .args in
-    refused (c .before .checked .given .0 .0) (listEntry leastRealization (a .ds .now) (a .out .now)) (a .out .now) (checked-refused _ _ _ (q .check-list .ensures) (c .before .checked .given .1))
+    refused (c .before .checked .given .0 .0) (listEntry leastRealization (a .ds .now) (a .out .now)) (a .out .now)
+    (checked-refused _ _ _ (q .check-list .ensures) (c .before .checked .given .1))
 
 same-length : tie.Need-same-length
 same-length c = search needs
@@ -37,8 +39,9 @@ returns-2 c =
     let w = c .before in
     let q = w .before .before .before .before in
     let a = q .before .before .args in
-    let e = checked-good _ _ (q .check-list .ensures) (w .before .before .enum-told .given .1) in
-    written (listEntry leastRealization (a .ds .now) (a .out .now)) (a .out .now) _ e (length-leastRealization (a .ds .now) (list-unmet (a .ds .now) (length (a .out .now)) e .0)) (w .least-realization .ensures)
+    let e = checked-accepted _ _ (q .check-list .ensures) (w .before .before .enum-told .given .1) in
+    written (listEntry leastRealization (a .ds .now) (a .out .now)) (a .out .now) _ e
+    (length-leastRealization (a .ds .now) (list-unmet (a .ds .now) (length (a .out .now)) e .0)) (w .least-realization .ensures)
 
 pub least-realization-spec : {M : Type 1} → statement M
 least-realization-spec = tie.close (tie.spec check-list-requires enum-known-checked enum-told least-realization-requires returns same-length returns-2)

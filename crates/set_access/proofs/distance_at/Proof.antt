@@ -1,7 +1,7 @@
--- `distance_at` meets its contract: the distances of a pattern lie one behind the other from its start.
+-- `distance_at` meets its contract: the distances of a pattern lie one behind the other from its
+-- start.
+use Rattle.lists.proofs.Prelude.{arith, needs}
 use Rattle.set_access.proofs.Laws.{pattern-fits, distance-word}
-use native.Mathlib.Omega.{arith}
-use borrow.Author.Needs.{needs}
 use Rattle.set_access.proofs.distance_at.Statement.{statement}
 use Rattle.set_access.proofs.distance_at.Tie as tie
 

@@ -1,8 +1,6 @@
 -- `offset_at` meets its contract: the offsets begin at the third word.
-use mathlib.Core.Path.{_∙_}
+use Rattle.lists.proofs.Prelude.{_∙_, arith, needs}
 use Rattle.set_access.proofs.Laws.{set-fits, word-offset}
-use native.Mathlib.Omega.{arith}
-use borrow.Author.Needs.{needs}
 use Rattle.set_access.proofs.offset_at.Statement.{statement}
 use Rattle.set_access.proofs.offset_at.Tie as tie
 

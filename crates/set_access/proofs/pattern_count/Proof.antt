@@ -1,8 +1,7 @@
--- `pattern_count` meets its contract: the first word of a good set's array is the number of its patterns.
-use mathlib.Core.Path.{_∙_}
+-- `pattern_count` meets its contract: the first word of a good set's array is the number of its
+-- patterns.
+use Rattle.lists.proofs.Prelude.{_∙_, arith, needs}
 use Rattle.set_access.proofs.Laws.{set-fits, word-count}
-use native.Mathlib.Omega.{arith}
-use borrow.Author.Needs.{needs}
 use Rattle.set_access.proofs.pattern_count.Statement.{statement}
 use Rattle.set_access.proofs.pattern_count.Tie as tie
 

@@ -1,8 +1,7 @@
--- `pattern_length` meets its contract: the patterns up to pattern j have its distances more than the patterns before it.
-use native.Mathlib.Numerals.{add-one}
+-- `pattern_length` meets its contract: the patterns up to pattern j have its distances more than
+-- the patterns before it.
+use Rattle.lists.proofs.Prelude.{add-one, arith, needs}
 use Rattle.set_access.proofs.Laws.{count-le, offset-next}
-use native.Mathlib.Omega.{arith}
-use borrow.Author.Needs.{needs}
 use Rattle.set_access.proofs.pattern_length.Statement.{statement}
 use Rattle.set_access.proofs.pattern_length.Tie as tie
 

@@ -1,8 +1,7 @@
--- `pattern_start` meets its contract: the distances lie behind the two numbers and the k + 1 offsets, and those of pattern j behind those of the patterns
--- before it.
+-- `pattern_start` meets its contract: the distances lie behind the two numbers and the k + 1
+-- offsets, and those of pattern j behind those of the patterns before it.
+use Rattle.lists.proofs.Prelude.{arith, needs}
 use Rattle.set_access.proofs.Laws.{count-le, offset-small}
-use native.Mathlib.Omega.{arith}
-use borrow.Author.Needs.{needs}
 use Rattle.set_access.proofs.pattern_start.Statement.{statement}
 use Rattle.set_access.proofs.pattern_start.Tie as tie
 

@@ -1,12 +1,9 @@
--- `check_set` refuses what begins with no good set's words, and else tells the two counts, which stand in the first two words.
-use mathlib.Core.Path.{_≡_, sym, _∙_}
-use mathlib.Core.Bool.{true}
-use borrow.Author.Tests.{not-true, not-false}
-use Rattle.set_arrays.specs.Rules.{isSet}
+-- `check_set` refuses what begins with no good set's words, and else tells the two counts, which
+-- stand in the first two words.
+use Rattle.lists.proofs.Prelude.{_≡_, _∙_, sym, true, arith, not-false, not-true, needs}
+use Rattle.pattern_set.specs.PatternSet.{isSet}
 use Rattle.set_arrays.proofs.SetRules.{set-follows}
 use Rattle.set_arrays.proofs.Entries.{check-broken, check-holds}
-use native.Mathlib.Omega.{arith}
-use borrow.Author.Needs.{needs}
 use Rattle.set_arrays.proofs.check_set.Statement.{statement}
 use Rattle.set_arrays.proofs.check_set.Tie as tie
 
@@ -32,7 +29,9 @@ wide-requires-2 : tie.Need-wide-requires-2
 wide-requires-2 c κs = search needs
 
 returns-2 : tie.Need-returns-2
-returns-2 c = check-holds (c .before .before .before .before .before .before .before .args .words .now) _ _ (good (c .before .before .before .before)) (c .before .before .wide .ensures) (c .wide2 .ensures)
+returns-2 c =
+    check-holds (c .before .before .before .before .before .before .before .args .words .now) _ _ (good (c .before .before .before .before))
+    (c .before .before .wide .ensures) (c .wide2 .ensures)
 
 pub check-set-spec : {M : Type 1} → statement M
 check-set-spec =

@@ -1,14 +1,14 @@
--- `empty_set` refuses an array of under three words, and else writes 0, 0, 0, which are the empty set's words.
-use lib.ListN.{length, length-set}
-use borrow.Author.Tests.{lt-ltb, le-ltb}
-use native.Mathlib.Omega.{arith}
-use borrow.Author.Needs.{needs}
+-- `empty_set` refuses an array of under three words, and else writes 0, 0, 0, which are the empty
+-- set's words.
+use Rattle.lists.proofs.Prelude.{length, length-set, arith, lt-ltb, le-ltb, needs}
 use Rattle.set_arrays.proofs.Laws.{empty-words}
 use Rattle.set_arrays.proofs.empty_set.Statement.{statement}
 use Rattle.set_arrays.proofs.empty_set.Tie as tie
 
 returns : tie.Need-returns
-returns c = (simp (lt-ltb (length (c .before .args .out .now)) 3 (omega arith)), simp (lt-ltb (length (c .before .args .out .now)) 3 (omega arith)))
+returns c =
+    let short = lt-ltb (length (c .before .args .out .now)) 3 (omega arith) in
+    (simp short, simp short)
 
 slice-write-out : tie.Need-slice-write-out
 slice-write-out c = search needs
@@ -23,7 +23,9 @@ same-length : tie.Need-same-length
 same-length c = search needs
 
 returns-2 : tie.Need-returns-2
-returns-2 c = (simp (le-ltb (length (c .before .args .out .now)) 3 (omega arith)), simp (le-ltb (length (c .before .args .out .now)) 3 (omega arith)) (empty-words _ (omega arith)))
+returns-2 c =
+    let long = le-ltb (length (c .before .args .out .now)) 3 (omega arith) in
+    (simp long, simp long (empty-words _ (omega arith)))
 
 pub empty-set-spec : {M : Type 1} → statement M
 empty-set-spec =

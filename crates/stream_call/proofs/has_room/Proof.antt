@@ -1,5 +1,6 @@
--- `has_room` meets its contract: the comparison is that of the definition. The file is here so that an edit of the comparison is refused at `returns`.
-use borrow.Author.Needs.{needs}
+-- `has_room` meets its contract: the comparison is that of the definition. The file is here so that
+-- an edit of the comparison is refused at `returns`.
+use Rattle.lists.proofs.Prelude.{needs}
 use Rattle.stream_call.proofs.has_room.Statement.{statement}
 use Rattle.stream_call.proofs.has_room.Tie as tie
 

@@ -1,56 +1,49 @@
--- `step` meets its contract: the push gives the distance and the open minima, the advance the node and the attempts, and the hits at the node are written.
-use mathlib.Core.Path.{_∙_}
-use native.Mathlib.Omega.{arith}
-use borrow.Author.Needs.{needs}
-use lib.IntN.{pos}
-use lib.ListN.{getD}
-use Rattle.pattern_set.specs.PatternSet.{readSet}
-use Rattle.model.specs.Automaton.{headOf}
-use Rattle.model.specs.Entries.{setOf}
-use Rattle.automaton_lookup.proofs.Words.{good-set}
-use Rattle.open_minima.specs.Parts.{minimaIn}
-use Rattle.open_minima.proofs.Laws.{good-parts}
+-- `step` meets its contract: the push gives the distance and the open minima, the advance the node
+-- and the attempts, and the hits at the node are written.
+use Rattle.lists.proofs.Prelude.{pos, getD, arith, needs}
+use Rattle.pattern_set.specs.PatternSet.{patternsOf}
+use Rattle.automaton_model.specs.Automaton.{headOf}
+use Rattle.automaton_lookup.proofs.Words.{made-good}
 use Rattle.stream_step.proofs.Listed.{length-listed}
-use Rattle.stream_step.proofs.Stepping.{reached-within}
+use Rattle.failure_walk.proofs.Walk.{reached-within}
 use Rattle.stream_call.specs.Taken.{stateFrom}
 use Rattle.stream_call.proofs.Taking.{stepped}
 use Rattle.stream_call.proofs.step.Statement.{statement}
 use Rattle.stream_call.proofs.step.Tie as tie
 
 push-minimum-requires : tie.Need-push-minimum-requires
-push-minimum-requires c κs =
-    let s = c .before .before .before .before .before in
-    let a = s .args in
-    ((s .pre .1 .1 .0 .0, s .pre .1 .1 .0 .1), good-parts (stateFrom (a .taken) (a .node) (minimaIn (a .taken) (a .first) (a .next)) (a .first) (a .places .now) (a .values .now)) ∙ s .pre .1 .1 .1)
+push-minimum-requires c κs = search needs
 
 advance-requires : tie.Need-advance-requires
-advance-requires c κs =
-    let s = c .before .before .before .before .before .before in
-    (s .pre .0, s .pre .1 .0)
+advance-requires c κs = search needs
 
 write-hits-requires : tie.Need-write-hits-requires
 write-hits-requires c κs =
-    let s = c .before .before .before .before .before .before .before .before in
-    let ws = s .args .set .now in
-    let ps = setOf (readSet ws) in
-    let g = good-set ws (s .pre .0 .0) in
-    let r = c .before .advance in
-    let w = reached-within ps g (s .pre .0 .1) (c .before .before .push-minimum .result .distance) (s .args .node) (r .result .node) (r .result .attempts) (r .ensures) in
-    (s .pre .0, (s .pre .1 .0 .0, s .pre .1 .0 .1, omega (arith, w .0, s .pre .1 .0 .1), omega (arith, length-listed ps g (headOf ps (r .result .node)), s .pre .1 .0 .0, s .pre .1 .1 .0 .2)))
+    let A = c .before in
+    let s = A .before .before .before .before .before .before .before in
+    let whole = s .pre .0 .0 in
+    let ps = patternsOf (s .args .set .now) in
+    let g = made-good (whole .made) in
+    let r = A .advance in
+    let w = reached-within ps g (whole .made .filled) (A .before .push-minimum .result .distance) (s .args .node) (r .result .node)
+    (r .result .attempts) (r .ensures) in
+    (whole, (omega (arith, w .0, whole .nodes), omega (arith, length-listed ps g (headOf ps (r .result .node)), whole .made .patterns, s .pre .0 .2)))
 
 same-length : tie.Need-same-length
 same-length c = search needs
 
 returns : tie.Need-returns
 returns c =
-    let s = c .before .before .before .before .before .before .before .before .before .before .before in
+    let W = c .before .before in
+    let A = W .before .before in
+    let P = A .before in
+    let s = P .before .before .before .before .before .before in
     let a = s .args in
-    let ws = a .set .now in
-    let w = c .before .before .write-hits in
-    let v = c .before .before .before .before .advance in
-    let p = c .before .before .before .before .before .push-minimum in
-    stepped (setOf (readSet ws)) (good-set ws (s .pre .0 .0)) (s .pre .0 .1) (stateFrom (a .taken) (a .node) (minimaIn (a .taken) (a .first) (a .next)) (a .first) (a .places .now) (a .values .now)) (getD (a .text .now) (a .i) (pos 0))
-    _ _ _ _ (p .result) (v .result .node) (v .result .attempts) (w .result) (p .ensures) (v .ensures) (w .ensures .0) (w .ensures .1)
+    let made = s .pre .0 .0 .made in
+    stepped (patternsOf (a .set .now)) (made-good made) (made .filled)
+    (stateFrom (a .taken) (a .node) (a .first) (a .next) (a .places .now) (a .heights .now)) (getD (a .values .now) (a .i) (pos 0)) _ _ _ _
+    (P .push-minimum .result) (A .advance .result .node) (A .advance .result .attempts) (W .write-hits .result)
+    (P .push-minimum .ensures) (A .advance .ensures) (W .write-hits .ensures .0) (W .write-hits .ensures .1)
 
 pub step-spec : {M : Type 1} → statement M
 step-spec =

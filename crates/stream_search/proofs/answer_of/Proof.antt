@@ -1,6 +1,5 @@
 -- `answer_of` tells that the values ended exactly if all of them are taken.
-use mathlib.Core.Path.{refl}
-use borrow.Author.Tests.{le-leb, lt-leb}
+use Rattle.lists.proofs.Prelude.{refl, le-leb, lt-leb}
 use Rattle.stream_search.proofs.answer_of.Statement.{statement}
 use Rattle.stream_search.proofs.answer_of.Tie as tie
 

@@ -1,22 +1,26 @@
--- `write_ends` meets its contract: the numbers of the order from the first place on are those of the patterns that end at the node, lower number
--- first, and after i turns the words of i of them stand at the front of the array (`Ends`). The measure is what is left of them.
-use Prim.Native.Nat.{_+_, _-_}
-use native.Mathlib.Omega.{arith}
-use lib.ListN.{length-set}
-use borrow.Author.Needs.{needs}
-use Rattle.pattern_set.specs.PatternSet.{readSet}
-use Rattle.model.specs.Automaton.{headOf}
-use Rattle.model.specs.Entries.{setOf}
-use Rattle.automaton_lookup.proofs.Words.{good-set}
+-- `write_ends` meets its contract: the numbers of the order from the first place on are those of
+-- the patterns that end at the node, lower number first, and after i turns the words of i of them
+-- stand at the front of the array (`Ends`). The measure is what is left of them.
+use Rattle.lists.proofs.Prelude.{_+_, _-_, length-set, arith, needs}
+use Rattle.pattern_set.specs.PatternSet.{patternsOf}
+use Rattle.automaton_model.specs.Automaton.{headOf}
+use Rattle.automaton_lookup.proofs.Words.{made-good}
 use Rattle.stream_step.proofs.Writing.{Ends, ends-start, ends-more, ends-end, number-small}
 use Rattle.stream_step.proofs.write_ends.Statement.{statement}
 use Rattle.stream_step.proofs.write_ends.Tie as tie
 
 abbrev Inv-loop : tie.InvT-loop
-Inv-loop set words k count node place hits₀ first n i₀ hits i = Ends (setOf (readSet set)) (headOf (setOf (readSet set)) node) place k hits₀ first n i hits
+Inv-loop set automaton k count node place hits₀ first n i₀ hits i = Ends (patternsOf set) (headOf (patternsOf set) node) place k hits₀ first n i hits
 
 abbrev μ-loop : tie.MeasureT-loop
-μ-loop set words k count node place hits₀ first n i₀ hits i = n - i
+μ-loop set automaton k count node place hits₀ first n i₀ hits i = n - i
+
+-- the call, from the number of patterns that end at the node, and from the loop
+abbrev counted : tie.After-ends Inv-loop μ-loop → tie.Start Inv-loop μ-loop
+counted c = c .before .before .before .before .before
+
+abbrev entered : tie.At-loop Inv-loop μ-loop → tie.After-ends Inv-loop μ-loop
+entered c = c .before
 
 first-place-requires : tie.Need-first-place-requires Inv-loop μ-loop
 first-place-requires c κs = search needs
@@ -26,10 +30,10 @@ ends-requires c κs = search needs
 
 loop-holds : tie.Need-loop-holds Inv-loop μ-loop
 loop-holds c =
-    let s = c .before .before .before .before .before in
-    let ws = s .args .set .now in
-    ends-start (setOf (readSet ws)) (headOf (setOf (readSet ws)) (s .args .node)) (s .args .place) (s .args .k) (s .args .hits .now) (c .before .first-place .result) (c .ends .result)
-    (s .pre .1 .0) (c .before .first-place .ensures) (c .ends .ensures) (s .pre .1 .2)
+    let s = counted c in
+    let ps = patternsOf (s .args .set .now) in
+    ends-start ps (headOf ps (s .args .node)) (s .args .place) (s .args .k) (s .args .hits .now) (c .before .first-place .result) (c .ends .result)
+    (s .pre .0 .made .patterns) (c .before .first-place .ensures) (c .ends .ensures) (s .pre .1 .1)
 
 add-pattern-in-order : tie.Need-add-pattern-in-order Inv-loop μ-loop
 add-pattern-in-order c = search needs
@@ -48,10 +52,13 @@ slice-write-hits c = search needs
 
 cast-hits : tie.Need-cast-hits Inv-loop μ-loop
 cast-hits c =
-    let s = c .before .before .before .before .before .before .before .before in
-    let ws = s .args .set .now in
-    let L = c .before .before .loop in
-    let r = number-small (setOf (readSet ws)) (good-set ws (s .pre .0 .0)) (c .before .before .before .before .first-place .result + L .i) (c .pattern-in-order .result) (omega arith) (c .pattern-in-order .ensures) in
+    let L = c .before .before in
+    let n = entered L in
+    let s = counted n in
+    let r =
+    number-small (patternsOf (s .args .set .now)) (made-good (s .pre .0 .made)) (n .before .first-place .result + L .loop .i) (c .pattern-in-order .result)
+    (omega arith)
+    (c .pattern-in-order .ensures) in
     omega arith
 
 mul-hits-3 : tie.Need-mul-hits-3 Inv-loop μ-loop
@@ -74,21 +81,26 @@ loop-less c = search needs
 
 loop-again : tie.Need-loop-again Inv-loop μ-loop
 loop-again c =
-    let s = c .before .before .before .before .before .before .before .before in
-    let ws = s .args .set .now in
-    let L = c .before .before .loop in
-    ends-more (setOf (readSet ws)) (headOf (setOf (readSet ws)) (s .args .node)) (s .args .place) (s .args .k) (s .args .hits .now) (c .before .before .before .before .first-place .result) (c .before .before .before .ends .result) (L .i) (L .hits)
-    (c .pattern-in-order .result) (L .inv) (c .before .loop-test .taken) (c .pattern-in-order .ensures)
+    let L = c .before .before in
+    let n = entered L in
+    let s = counted n in
+    let ps = patternsOf (s .args .set .now) in
+    ends-more ps (headOf ps (s .args .node)) (s .args .place) (s .args .k) (s .args .hits .now) (n .before .first-place .result) (n .ends .result)
+    (L .loop .i) (L .loop .hits)
+    (c .pattern-in-order .result) (L .loop .inv) (c .before .loop-test .taken) (c .pattern-in-order .ensures)
 
 same-length : tie.Need-same-length Inv-loop μ-loop
 same-length c = search needs
 
 returns : tie.Need-returns Inv-loop μ-loop
 returns c =
-    let s = c .before .before .before .before .before .before .before in
-    let ws = s .args .set .now in
-    let L = c .before .loop in
-    ends-end (setOf (readSet ws)) (headOf (setOf (readSet ws)) (s .args .node)) (s .args .place) (s .args .k) (s .args .hits .now) (c .before .before .before .first-place .result) (c .before .before .ends .result) (L .i) (L .hits) (L .inv) (c .loop-test .left)
+    let L = c .before in
+    let n = entered L in
+    let s = counted n in
+    let ps = patternsOf (s .args .set .now) in
+    ends-end ps (headOf ps (s .args .node)) (s .args .place) (s .args .k) (s .args .hits .now) (n .before .first-place .result) (n .ends .result) (L .loop .i)
+    (L .loop .hits)
+    (L .loop .inv) (c .loop-test .left)
 
 pub write-ends-spec : {M : Type 1} → statement M
 write-ends-spec =

@@ -1,6 +1,5 @@
 -- `attempts_between` is safe and ends.
-use Prim.Native.Nat.{_≤_, _-_, _+_, _*_}
-use borrow.Author.Needs.{needs}
+use Rattle.lists.proofs.Prelude.{_+_, _-_, _*_, _≤_, needs}
 use Rattle.test_plain.proofs.attempts_between.Statement.{statement}
 use Rattle.test_plain.proofs.attempts_between.Tie as tie
 

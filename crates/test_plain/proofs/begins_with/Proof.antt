@@ -1,6 +1,5 @@
 -- `begins_with` is safe and ends.
-use Prim.Native.Nat.{_≤_, _-_}
-use borrow.Author.Needs.{needs}
+use Rattle.lists.proofs.Prelude.{_-_, _≤_, needs}
 use Rattle.test_plain.proofs.begins_with.Statement.{statement}
 use Rattle.test_plain.proofs.begins_with.Tie as tie
 

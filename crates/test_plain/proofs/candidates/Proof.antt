@@ -1,6 +1,5 @@
 -- `candidates` is safe and ends.
-use Prim.Native.Nat.{_≤_, _-_, _*_}
-use borrow.Author.Needs.{needs}
+use Rattle.lists.proofs.Prelude.{_-_, _*_, _≤_, needs}
 use Rattle.test_plain.proofs.candidates.Statement.{statement}
 use Rattle.test_plain.proofs.candidates.Tie as tie
 

@@ -1,8 +1,5 @@
 -- `candidates_at` is safe and ends.
-use mathlib.Core.Logic.{⊎-elim}
-use Prim.Native.Nat.{_≤_, _-_}
-use native.Mathlib.Omega.{arith}
-use borrow.Author.Needs.{needs}
+use Rattle.lists.proofs.Prelude.{⊎-elim, _-_, _≤_, arith, needs}
 use Rattle.test_plain.proofs.candidates_at.Statement.{statement}
 use Rattle.test_plain.proofs.candidates_at.Tie as tie
 

@@ -1,6 +1,5 @@
 -- `distance` is safe and ends.
-use Prim.Native.Nat.{_≤_}
-use borrow.Author.Needs.{needs}
+use Rattle.lists.proofs.Prelude.{_≤_, needs}
 use Rattle.test_plain.proofs.distance.Statement.{statement}
 use Rattle.test_plain.proofs.distance.Tie as tie
 

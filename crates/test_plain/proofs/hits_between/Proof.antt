@@ -1,8 +1,5 @@
 -- `hits_between` is safe and ends.
-use mathlib.Core.Path.{_≡_}
-use lib.ListN.{length}
-use Prim.Native.Nat.{_≤_, _-_}
-use borrow.Author.Needs.{needs}
+use Rattle.lists.proofs.Prelude.{_≡_, _-_, _≤_, length, needs}
 use Rattle.test_plain.proofs.hits_between.Statement.{statement}
 use Rattle.test_plain.proofs.hits_between.Tie as tie
 

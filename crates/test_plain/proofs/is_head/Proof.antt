@@ -1,6 +1,5 @@
 -- `is_head` is safe and ends.
-use Prim.Native.Nat.{_≤_, _-_}
-use borrow.Author.Needs.{needs}
+use Rattle.lists.proofs.Prelude.{_-_, _≤_, needs}
 use Rattle.test_plain.proofs.is_head.Statement.{statement}
 use Rattle.test_plain.proofs.is_head.Tie as tie
 

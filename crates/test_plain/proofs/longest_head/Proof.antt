@@ -1,6 +1,5 @@
 -- `longest_head` is safe and ends.
-use Prim.Native.Nat.{_≤_}
-use borrow.Author.Needs.{needs}
+use Rattle.lists.proofs.Prelude.{_≤_, needs}
 use Rattle.test_plain.proofs.longest_head.Statement.{statement}
 use Rattle.test_plain.proofs.longest_head.Tie as tie
 

@@ -1,6 +1,5 @@
 -- `same_fingerprint` is safe and ends.
-use Prim.Native.Nat.{_≤_, _-_}
-use borrow.Author.Needs.{needs}
+use Rattle.lists.proofs.Prelude.{_-_, _≤_, needs}
 use Rattle.test_plain.proofs.same_fingerprint.Statement.{statement}
 use Rattle.test_plain.proofs.same_fingerprint.Tie as tie
 

@@ -1,7 +1,5 @@
 -- `add` is safe and ends.
-use lib.ListN.{length-take}
-use native.Mathlib.Omega.{arith}
-use borrow.Author.Needs.{needs}
+use Rattle.lists.proofs.Prelude.{length-take, arith, needs}
 use Rattle.test_sets.proofs.add.Statement.{statement}
 use Rattle.test_sets.proofs.add.Tie as tie
 

@@ -1,8 +1,5 @@
 -- `make` is safe and ends.
-use mathlib.Core.Path.{_≡_}
-use lib.ListN.{length}
-use Prim.Native.Nat.{_<_, _-_}
-use borrow.Author.Needs.{needs}
+use Rattle.lists.proofs.Prelude.{_≡_, _-_, _<_, length, needs}
 use Rattle.test_sets.proofs.make.Statement.{statement}
 use Rattle.test_sets.proofs.make.Tie as tie
 

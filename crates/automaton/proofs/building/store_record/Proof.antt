@@ -1,8 +1,6 @@
 -- `store_record` meets its contract: eight stores side by side.
-use native.Mathlib.Omega.{arith}
-use borrow.Author.Needs.{needs}
-use lib.ListN.{length-set}
-use Rattle.automaton.proofs.More.{store-eight}
+use Rattle.lists.proofs.Prelude.{length-set, arith, needs}
+use Rattle.automaton.proofs.EightWords.{store-eight}
 use Rattle.automaton.proofs.building.store_record.Statement.{statement}
 use Rattle.automaton.proofs.building.store_record.Tie as tie
 
@@ -81,7 +79,8 @@ same-length c = search needs
 returns : tie.Need-returns
 returns c =
     let r = c .args .r in
-    store-eight (c .args .out .now) (c .args .at) (r .depth) (r .label) (r .failure) (r .output) (r .«first_child») (r .children) (r .«first_place») (r .ends) (c .pre)
+    store-eight (c .args .out .now) (c .args .at) (r .depth) (r .label) (r .failure) (r .output) (r .«first_child») (r .children) (r .«first_place») (r .ends)
+    (c .pre)
 
 pub store-record-spec : {M : Type 1} → statement M
 store-record-spec =

@@ -1,72 +1,84 @@
--- `write_records` meets its contract: before node n the array has the front and the records of the nodes before it, and behind them the words that it had.
-use native.Mathlib.Omega.{arith}
-use borrow.Author.Needs.{needs}
-use mathlib.Core.Path.{_≡_, refl, _∙_, ap}
-use mathlib.Core.List.{List, _++_}
-use Prim.Native.Nat.{ℕ, _+_, _-_, _*_, _≤_, _<_}
-use lib.ListN.{length, take, drop}
-use Rattle.model.specs.Automaton.{nodes, automatonWords}
-use Rattle.model.proofs.Nodes.{node-root}
-use Rattle.model.proofs.Lengths.{length-automaton}
-use Rattle.set_access.specs.Patterns.{patternsOf}
-use Rattle.set_access.proofs.Laws.{good-set, count-le}
-use Rattle.automaton_lookup.specs.Made.{Made}
+-- `write_records` meets its contract: before node n the array has the front and the records of the
+-- nodes before it, and behind them the words that it had (`Along`, `Grown`). The measure is the
+-- number of nodes left.
+use Rattle.lists.proofs.Prelude.{sym, subst, List, ℕ, _+_, _-_, _*_, _≤_, _<_, length, arith, needs}
+use Rattle.automaton_model.specs.Automaton.{nodes}
+use Rattle.automaton_model.proofs.Lengths.{length-automaton}
+use Rattle.pattern_set.specs.PatternSet.{patternsOf}
+use Rattle.set_access.proofs.Laws.{count-le}
 use Rattle.automaton_records.proofs.Sizes.{nodes-small}
-use Rattle.automaton.proofs.Records.{recordAt, grown-more, grown-made, length-grown, made-grown, grown-behind, grown-all}
-use Rattle.automaton.proofs.Along.{Along, along-start, along-next, along-place}
+use Rattle.automaton.proofs.Records.{Grown, grown-start, grown-more, grown-on, grown-all}
+use Rattle.automaton.proofs.Along.{Along, root-there, along-start, along-place, along-next}
 use Rattle.automaton.proofs.building.write_records.Statement.{statement}
 use Rattle.automaton.proofs.building.write_records.Tie as tie
 
 abbrev Inv-loop : tie.InvT-loop
-Inv-loop set k count out₀ parent₀ end₀ n₀ out parent end n =
-    (0 < n)
-    × (n ≤ count)
-    × (length out ≡ length out₀)
-    × Along (patternsOf set) n parent end
-    × (out ≡ take (recordAt (patternsOf set) n) (automatonWords (patternsOf set)) ++ drop (recordAt (patternsOf set) n) out₀)
+Inv-loop set k count out₀ parent₀ end₀ n₀ out parent end n = Along set out k count parent end n × Grown set out₀ out k n
 
 abbrev μ-loop : tie.MeasureT-loop
 μ-loop set k count out₀ parent₀ end₀ n₀ out parent end n = count - n
 
--- there is a node
-root : (c : tie.Start Inv-loop μ-loop) → 0 < length (nodes (patternsOf (c .args .set .now)))
-root c = node-root (patternsOf (c .args .set .now)) (good-set (c .args .set .now) (c .pre .0 .0)) (c .pre .0 .1) .2
+-- ---- places
+
+-- the call, from the store of the root's record and from the loop
+abbrev start : tie.After-store-record Inv-loop μ-loop → tie.Start Inv-loop μ-loop
+start c = c .before .before .before .before .before
+
+abbrev entered : tie.At-loop Inv-loop μ-loop → tie.Start Inv-loop μ-loop
+entered c = start (c .before .before .before)
+
+-- the loop, from the parent, the record, and the store of the record
+abbrev parented : tie.After-next-parent Inv-loop μ-loop → tie.In-loop Inv-loop μ-loop
+parented c = c .before .before
+
+abbrev recorded : tie.After-make-record Inv-loop μ-loop → tie.After-next-parent Inv-loop μ-loop
+recorded c = c .before .before .before .before
+
+abbrev stored : tie.After-store-record2 Inv-loop μ-loop → tie.After-make-record Inv-loop μ-loop
+stored c = c .before .before .before
 
 -- neither number is large
 sizes : (c : tie.Start Inv-loop μ-loop) → (c .args .k ≤ 64) × (c .args .count ≤ 4097)
-sizes c = (omega (arith, count-le (c .args .set .now) (c .pre .0 .0), c .pre .1 .0), omega (arith, nodes-small (c .args .set .now) (c .pre .0 .0), c .pre .1 .1))
+sizes c =
+    let m = c .pre .0 in
+    let e = c .pre .1 in
+    (omega (arith, count-le (c .args .set .now) (m .isSet), m .patterns), omega (arith, nodes-small (c .args .set .now) (m .isSet)))
 
 -- the record of the root is written
-rooted : (c : tie.After-store-record Inv-loop μ-loop) → c .store-record .last .0 ≡ take (recordAt (patternsOf (c .before .before .before .before .before .args .set .now)) 1) (automatonWords (patternsOf (c .before .before .before .before .before .args .set .now))) ++ drop (recordAt (patternsOf (c .before .before .before .before .before .args .set .now)) 1) (c .before .before .before .before .before .args .out .now)
+rooted : (c : tie.After-store-record Inv-loop μ-loop)
+    → Grown (start c .args .set .now) (start c .args .out .now) (c .store-record .last .0) (start c .args .k) 1
 rooted c =
-    let st = c .before .before .before .before .before in
-    let ws = st .args .set .now in
-    let d = st .args .out .now in
-    let m = st .pre .0 in
-    c .store-record .ensures
-    ∙ grown-more ws (m .0) (m .1) 0 (root st) d d _ (m .4) (made-grown ws d 0 m) (2 * st .args .k + 1) (omega (arith, st .pre .1 .0)) (c .before .before .root-record .ensures)
+    let s = start c in
+    let m = s .pre .0 in
+    let r = grown-more (grown-start m) (root-there m) _ (2 * s .args .k + 1) (omega arith) (c .before .before .root-record .ensures) in
+    subst (λ (l : List ℕ). Grown (s .args .set .now) (s .args .out .now) l (s .args .k) 1) (sym (c .store-record .ensures)) r
 
-rooted-made : (c : tie.After-store-record Inv-loop μ-loop) → Made (c .before .before .before .before .before .args .set .now) (c .store-record .last .0) 1
-rooted-made c =
-    let st = c .before .before .before .before .before in
-    let ws = st .args .set .now in
-    let d = st .args .out .now in
-    let m = st .pre .0 in
-    let r = root st in
-    grown-made ws d (c .store-record .last .0) 1 (m .0) (m .1) (omega arith) (m .4) (ap length (rooted c) ∙ length-grown (patternsOf ws) d 1 (omega arith) (m .4)) (rooted c)
+-- node n is a node
+within : (c : tie.In-loop Inv-loop μ-loop) → c .before .loop .n < length (nodes (patternsOf (entered (c .before) .args .set .now)))
+within c =
+    let e = entered (c .before) .pre .1 in
+    omega (arith, c .loop-test .taken)
 
--- the records before node n are there
-made : (c : tie.At-loop Inv-loop μ-loop) → Made (c .before .before .before .before .before .before .before .before .args .set .now) (c .loop .out) (c .loop .n)
-made c =
-    let s = c .before .before .before in
-    let st = s .before .before .before .before .before in
-    let m = rooted-made s in
-    grown-made (st .args .set .now) (s .store-record .last .0) (c .loop .out) (c .loop .n) (m .0) (m .1) (omega (arith, c .loop .inv .1, st .pre .1 .1)) (m .4) (c .loop .inv .2) (c .loop .inv .4)
+-- the records of node n and of those before it are written
+written : (c : tie.After-store-record2 Inv-loop μ-loop) →
+    let L = parented (recorded (stored c)) .before in
+    let s = entered L in
+    Grown (s .args .set .now) (L .before .before .before .store-record .last .0) (c .store-record2 .last .0) (s .args .k) (L .loop .n + 1)
+written c =
+    let r = stored c in
+    let I = parented (recorded r) in
+    let L = I .before in
+    let s = entered L in
+    let g = grown-more (L .loop .inv .1) (within I) _ (2 * s .args .k + 1 + 8 * L .loop .n) (omega arith) (r .make-record .ensures .0) in
+    subst (λ (l : List ℕ). Grown (s .args .set .now) (L .before .before .before .store-record .last .0) l (s .args .k) (L .loop .n + 1))
+    (sym (c .store-record2 .ensures)) g
+
+-- ---- needs
 
 root-record-requires : tie.Need-root-record-requires Inv-loop μ-loop
 root-record-requires c κs =
-    let st = c .before .before in
-    (st .pre .0 .0, st .pre .0 .1)
+    let m = c .before .before .pre .0 in
+    (m .isSet, m .filled)
 
 mul-store-record : tie.Need-mul-store-record Inv-loop μ-loop
 mul-store-record c =
@@ -81,73 +93,74 @@ add-store-record c =
 store-record-requires : tie.Need-store-record-requires Inv-loop μ-loop
 store-record-requires c κs =
     let st = c .before .before .before .before in
-    omega (arith, st .pre .0 .4, length-automaton (patternsOf (st .args .set .now)), root st, st .pre .1 .0)
+    let m = st .pre .0 in
+    omega (arith, m .room, length-automaton (patternsOf (st .args .set .now)), root-there m, m .patterns)
 
 loop-holds : tie.Need-loop-holds Inv-loop μ-loop
 loop-holds c =
     let s = c .before .before in
-    let st = s .before .before .before .before .before in
-    (omega arith, omega (arith, root st, st .pre .1 .1), refl, along-start (patternsOf (st .args .set .now)) 0, made-grown (st .args .set .now) (s .store-record .last .0) 1 (rooted-made s))
+    let m = rooted s .made in
+    (along-start (start s .pre .1) m, grown-start m)
 
 next-parent-requires : tie.Need-next-parent-requires Inv-loop μ-loop
 next-parent-requires c κs =
-    let L = c .before .before in
-    let st = L .before .before .before .before .before .before .before .before in
-    (made L, ((st .pre .1 .0, L .loop .inv .0, omega (arith, c .before .loop-test .taken, st .pre .1 .1), omega arith), L .loop .inv .3 .0))
+    let I = c .before in
+    let a = I .before .loop .inv .0 in
+    (a .made, ((a .positive, within I, omega arith), a .first))
 
 next-place-requires : tie.Need-next-place-requires Inv-loop μ-loop
 next-place-requires c κs =
     let p = c .before in
-    let L = p .before .before .before in
-    let st = L .before .before .before .before .before .before .before .before in
-    let ws = st .args .set .now in
-    let h : L .loop .n < length (nodes (patternsOf ws)) = omega (arith, p .before .before .loop-test .taken, st .pre .1 .1) in
-    (made L, ((st .pre .1 .0, L .loop .inv .0, h, omega arith), (p .next-parent .ensures .1, along-place (patternsOf ws) (good-set ws (st .pre .0 .0)) (st .pre .0 .1) (L .loop .n) (p .next-parent .result) (L .loop .end) h (p .next-parent .ensures .0) (L .loop .inv .3 .1))))
+    let I = parented p in
+    let L = I .before in
+    let a = L .loop .inv .0 in
+    let e = p .next-parent .ensures in
+    (a .made, ((a .positive, within I, omega arith), (e, along-place (entered L .pre .1) a (omega (arith, I .loop-test .taken)) (p .next-parent .result) e)))
 
 make-record-requires : tie.Need-make-record-requires Inv-loop μ-loop
 make-record-requires c κs =
     let q = c .before in
     let p = q .before .before in
-    let L = p .before .before .before in
-    let st = L .before .before .before .before .before .before .before .before in
-    (made L, ((st .pre .1 .0, L .loop .inv .0, omega (arith, p .before .before .loop-test .taken, st .pre .1 .1)), (p .next-parent .ensures .1, q .next-place .ensures)))
+    let I = p .before .before in
+    let a = I .before .loop .inv .0 in
+    (a .made, ((a .positive, within I), (p .next-parent .ensures, q .next-place .ensures)))
 
 mul-store-record-2 : tie.Need-mul-store-record-2 Inv-loop μ-loop
 mul-store-record-2 c =
-    let L = c .before .before .before .before .before .before .before .before .before in
-    let s = sizes (L .before .before .before .before .before .before .before .before) in
+    let s = sizes (entered (parented (recorded (c .before .before)) .before)) in
     search needs
 
 add-store-record-2 : tie.Need-add-store-record-2 Inv-loop μ-loop
 add-store-record-2 c =
-    let L = c .before .before .before .before .before .before .before .before .before in
-    let s = sizes (L .before .before .before .before .before .before .before .before) in
+    let s = sizes (entered (parented (recorded (c .before .before)) .before)) in
     search needs
 
 mul-store-record-3 : tie.Need-mul-store-record-3 Inv-loop μ-loop
 mul-store-record-3 c =
-    let L = c .before .before .before .before .before .before .before .before .before in
-    let s = sizes (L .before .before .before .before .before .before .before .before) in
+    let L = parented (recorded (c .before .before)) .before in
+    let s = sizes (entered L) in
+    let p = L .loop .inv .0 .part in
     search needs
 
 add-store-record-3 : tie.Need-add-store-record-3 Inv-loop μ-loop
 add-store-record-3 c =
-    let L = c .before .before .before .before .before .before .before .before .before in
-    let s = sizes (L .before .before .before .before .before .before .before .before) in
+    let L = parented (recorded (c .before .before)) .before in
+    let s = sizes (entered L) in
+    let p = L .loop .inv .0 .part in
     search needs
 
 store-record-requires-2 : tie.Need-store-record-requires-2 Inv-loop μ-loop
 store-record-requires-2 c κs =
-    let I = c .before .before .before .before .before .before .before .before in
+    let I = parented (recorded (c .before .before)) in
     let L = I .before in
-    let st = L .before .before .before .before .before .before .before .before in
-    omega (arith, made L .4, length-automaton (patternsOf (st .args .set .now)), I .loop-test .taken, st .pre .1)
+    let m = L .loop .inv .0 .made in
+    omega (arith, m .room, length-automaton (patternsOf (entered L .args .set .now)), within I, m .patterns)
 
 add-n : tie.Need-add-n Inv-loop μ-loop
 add-n c =
-    let I = c .before .before .before .before .before .before .before .before .before .before .before in
-    let st = I .before .before .before .before .before .before .before .before .before in
-    omega (arith, I .loop-test .taken, sizes st)
+    let I = parented (recorded (stored (c .before .before))) in
+    let s = sizes (entered (I .before)) in
+    omega (arith, I .loop-test .taken)
 
 loop-less : tie.Need-loop-less Inv-loop μ-loop
 loop-less c = search needs
@@ -155,46 +168,29 @@ loop-less c = search needs
 loop-again : tie.Need-loop-again Inv-loop μ-loop
 loop-again c =
     let w = c .before .before in
-    let r = w .before .before .before in
-    let p = r .before .before .before .before in
-    let I = p .before .before in
+    let r = stored w in
+    let p = recorded r in
+    let I = parented p in
     let L = I .before in
-    let s = L .before .before .before in
-    let st = s .before .before .before .before .before in
-    let ws = st .args .set .now in
-    let ps = patternsOf ws in
-    let m = rooted-made s in
-    let o = s .store-record .last .0 in
-    let h : L .loop .n < length (nodes ps) = omega (arith, I .loop-test .taken, st .pre .1 .1) in
-    let g : w .store-record2 .last .0 ≡ take (recordAt ps (L .loop .n + 1)) (automatonWords ps) ++ drop (recordAt ps (L .loop .n + 1)) o =
-    w .store-record2 .ensures
-    ∙ grown-more ws (m .0) (m .1) (L .loop .n) h o (L .loop .out) _ (m .4) (L .loop .inv .4) (2 * st .args .k + 1 + 8 * L .loop .n) (omega (arith, st .pre .1 .0)) (r .make-record .ensures .0) in (
-      omega arith,
-      omega arith,
-      ap length g ∙ length-grown ps o (L .loop .n + 1) (omega arith) (m .4),
-      along-next ps (L .loop .n) (p .next-parent .result) (r .make-record .result .end) (p .next-parent .ensures .1 .0) (r .make-record .ensures .1),
+    let g = written w in (
+      along-next (entered L .pre .1) (L .loop .inv .0) (omega (arith, I .loop-test .taken)) (p .next-parent .result) (p .next-parent .ensures)
+          (w .store-record2 .last .0)
+          (r .make-record .result .end) (g .made) (r .make-record .ensures .1),
       g,
     )
 
+-- the array at the end of the loop, over the one of the call
+grown : (c : tie.At-loop Inv-loop μ-loop) → Grown (entered c .args .set .now) (entered c .args .out .now) (c .loop .out) (entered c .args .k) (c .loop .n)
+grown c = grown-on (rooted (c .before .before .before)) (c .loop .inv .1) (c .loop .inv .0 .positive)
+
 same-length : tie.Need-same-length Inv-loop μ-loop
-same-length c =
-    let L = c .before in
-    let s = L .before .before .before in
-    let st = s .before .before .before .before .before in
-    let ws = st .args .set .now in
-    let h = root st in
-    L .loop .inv .2 ∙ ap length (rooted s) ∙ length-grown (patternsOf ws) (st .args .out .now) 1 (omega arith) (st .pre .0 .4)
+same-length c = grown (c .before) .sized
 
 returns : tie.Need-returns Inv-loop μ-loop
 returns c =
     let L = c .before in
-    let s = L .before .before .before in
-    let st = s .before .before .before .before .before in
-    let ps = patternsOf (st .args .set .now) in
-    let e : L .loop .n ≡ length (nodes ps) = omega (arith, c .loop-test .left, L .loop .inv .1, st .pre .1 .1) in
-    grown-all ps (st .args .out .now) (L .loop .out) (L .loop .n) e
-    (L .loop .inv .4
-    ∙ ap (λ (l : List ℕ). take (recordAt ps (L .loop .n)) (automatonWords ps) ++ l) (grown-behind ps (st .args .out .now) (s .store-record .last .0) 1 (L .loop .n) (L .loop .inv .0) (omega arith) (rooted s)))
+    let e = entered L .pre .1 in
+    grown-all (grown L) (omega (arith, c .loop-test .left, L .loop .inv .0 .part))
 
 pub write-records-spec : {M : Type 1} → statement M
 write-records-spec =

@@ -1,47 +1,45 @@
--- `are_records` meets its contract: before node n the records of the nodes before it are known to be right, so that its own can be made and compared.
-use native.Mathlib.Omega.{arith}
-use borrow.Author.Needs.{needs}
-use borrow.Author.Tests.{not-true, not-false}
-use mathlib.Core.Path.{sym, _∙_}
-use Prim.Native.Nat.{_+_, _-_, _*_, _≤_, _<_}
-use lib.ListN.{length}
-use Rattle.model.specs.Automaton.{nodes}
-use Rattle.model.proofs.Nodes.{node-root}
-use Rattle.model.proofs.Lengths.{length-automaton}
-use Rattle.set_access.specs.Patterns.{patternsOf}
-use Rattle.set_access.proofs.Laws.{good-set, count-le}
-use Rattle.automaton_lookup.specs.Made.{Made}
+-- `are_records` meets its contract: before node n the records of the nodes before it are known to
+-- be right (`Along`), so that its own can be made and compared. The measure is the number of nodes
+-- left.
+use Rattle.lists.proofs.Prelude.{_≡_, _∙_, sym, _+_, _-_, _*_, _≤_, _<_, length, take, drop, arith, not-false, not-true, needs}
+use Rattle.lists.proofs.Same.{true-same}
+use Rattle.automaton_model.specs.Automaton.{nodes, recordOf}
+use Rattle.automaton_model.proofs.Lengths.{length-automaton}
+use Rattle.pattern_set.specs.PatternSet.{patternsOf}
+use Rattle.set_access.proofs.Laws.{count-le}
 use Rattle.automaton_records.proofs.Sizes.{nodes-small}
-use Rattle.automaton.proofs.More.{true-same}
 use Rattle.automaton.proofs.Records.{made-more, begins-not, begins-all}
-use Rattle.automaton.proofs.Along.{Along, along-start, along-next, along-place}
+use Rattle.automaton.proofs.Along.{Along, root-there, along-start, along-place, along-next}
 use Rattle.automaton.proofs.checking.are_records.Statement.{statement}
 use Rattle.automaton.proofs.checking.are_records.Tie as tie
 
 abbrev Inv-loop : tie.InvT-loop
-Inv-loop set k count words parent₀ end₀ n₀ parent end n = (0 < n) × (n ≤ count) × Along (patternsOf set) n parent end × Made set words n
+Inv-loop set k count words parent₀ end₀ n₀ parent end n = Along set words k count parent end n
 
 abbrev μ-loop : tie.MeasureT-loop
 μ-loop set k count words parent₀ end₀ n₀ parent end n = count - n
 
--- there is a node
-root : (c : tie.Start Inv-loop μ-loop) → 0 < length (nodes (patternsOf (c .args .set .now)))
-root c = node-root (patternsOf (c .args .set .now)) (good-set (c .args .set .now) (c .pre .0 .0)) (c .pre .0 .1) .2
+-- the call, from the loop
+abbrev entered : tie.At-loop Inv-loop μ-loop → tie.Start Inv-loop μ-loop
+entered c = c .before .before .before .before .before .before
 
 -- neither number is large
 sizes : (c : tie.Start Inv-loop μ-loop) → (c .args .k ≤ 64) × (c .args .count ≤ 4097)
-sizes c = (omega (arith, count-le (c .args .set .now) (c .pre .0 .0), c .pre .1 .0), omega (arith, nodes-small (c .args .set .now) (c .pre .0 .0), c .pre .1 .1))
+sizes c =
+    let m = c .pre .0 in
+    let e = c .pre .1 in
+    (omega (arith, count-le (c .args .set .now) (m .isSet), m .patterns), omega (arith, nodes-small (c .args .set .now) (m .isSet)))
 
 -- node n is a node
-within : (c : tie.In-loop Inv-loop μ-loop) → c .before .loop .n < length (nodes (patternsOf (c .before .before .before .before .before .before .before .args .set .now)))
+within : (c : tie.In-loop Inv-loop μ-loop) → c .before .loop .n < length (nodes (patternsOf (entered (c .before) .args .set .now)))
 within c =
-    let st = c .before .before .before .before .before .before .before in
-    omega (arith, c .loop-test .taken, st .pre .1 .1)
+    let e = entered (c .before) .pre .1 in
+    omega (arith, c .loop-test .taken)
 
 root-record-requires : tie.Need-root-record-requires Inv-loop μ-loop
 root-record-requires c κs =
-    let st = c .before .before in
-    (st .pre .0 .0, st .pre .0 .1)
+    let m = c .before .before .pre .0 in
+    (m .isSet, m .filled)
 
 mul-is-record : tie.Need-mul-is-record Inv-loop μ-loop
 mul-is-record c =
@@ -56,7 +54,8 @@ add-is-record c =
 is-record-requires : tie.Need-is-record-requires Inv-loop μ-loop
 is-record-requires c κs =
     let st = c .before .before .before in
-    omega (arith, st .pre .0 .4, length-automaton (patternsOf (st .args .set .now)), root st, st .pre .1 .0)
+    let m = st .pre .0 in
+    omega (arith, m .room, length-automaton (patternsOf (st .args .set .now)), root-there m, m .patterns)
 
 returns : tie.Need-returns Inv-loop μ-loop
 returns c =
@@ -64,84 +63,87 @@ returns c =
     let st = t .before .before .before .before in
     let m = st .pre .0 in
     sym
-    (begins-not (st .args .set .now) (m .0) (m .1) 0 (root st) (st .args .words .now) _ (2 * st .args .k + 1) (m .4) (omega (arith, st .pre .1 .0)) (t .before .root-record .ensures)
+    (begins-not m 0 (root-there m) _ (2 * st .args .k + 1) (omega arith) (t .before .root-record .ensures)
     (sym (t .is-record .ensures) ∙ not-true _ (c .if1 .taken)))
 
 loop-holds : tie.Need-loop-holds Inv-loop μ-loop
 loop-holds c =
     let t = c .before in
     let st = t .before .before .before .before in
-    let m = st .pre .0 in (
-      omega arith,
-      omega (arith, root st, st .pre .1 .1),
-      along-start (patternsOf (st .args .set .now)) 0,
-      made-more (st .args .set .now) (m .0) (m .1) 0 (root st) (st .args .words .now) m (2 * st .args .k + 1) (omega (arith, st .pre .1 .0))
-          (true-same _ _ (sym (t .is-record .ensures) ∙ not-false _ (c .if1 .left)) ∙ t .before .root-record .ensures),
-    )
+    let m = st .pre .0 in
+    along-start (st .pre .1)
+    (made-more m (root-there m) (2 * st .args .k + 1) (omega arith)
+    (true-same _ _ (sym (t .is-record .ensures) ∙ not-false _ (c .if1 .left)) ∙ t .before .root-record .ensures))
 
 next-parent-requires : tie.Need-next-parent-requires Inv-loop μ-loop
 next-parent-requires c κs =
-    let L = c .before in
-    let st = L .before .before .before .before .before .before in
-    (L .loop .inv .3, ((st .pre .1 .0, L .loop .inv .0, within c, omega arith), L .loop .inv .2 .0))
+    let a = c .before .loop .inv in
+    (a .made, ((a .positive, within c, omega arith), a .first))
 
 next-place-requires : tie.Need-next-place-requires Inv-loop μ-loop
 next-place-requires c κs =
     let I = c .before in
     let L = I .before in
-    let st = L .before .before .before .before .before .before in
-    let ws = st .args .set .now in
-    (L .loop .inv .3, ((st .pre .1 .0, L .loop .inv .0, within I, omega arith), (c .next-parent .ensures .1, along-place (patternsOf ws) (good-set ws (st .pre .0 .0)) (st .pre .0 .1) (L .loop .n) (c .next-parent .result) (L .loop .end) (within I) (c .next-parent .ensures .0) (L .loop .inv .2 .1))))
+    let a = L .loop .inv in
+    let e = c .next-parent .ensures in
+    (a .made, ((a .positive, within I, omega arith), (e, along-place (entered L .pre .1) a (omega (arith, I .loop-test .taken)) (c .next-parent .result) e)))
 
 make-record-requires : tie.Need-make-record-requires Inv-loop μ-loop
 make-record-requires c κs =
     let p = c .before in
-    let L = p .before .before in
-    let st = L .before .before .before .before .before .before in
-    (L .loop .inv .3, ((st .pre .1 .0, L .loop .inv .0, within (p .before)), (p .next-parent .ensures .1, c .next-place .ensures)))
+    let I = p .before in
+    let a = I .before .loop .inv in
+    (a .made, ((a .positive, within I), (p .next-parent .ensures, c .next-place .ensures)))
 
 mul-is-record-2 : tie.Need-mul-is-record-2 Inv-loop μ-loop
 mul-is-record-2 c =
-    let s = sizes (c .before .before .before .before .before .before .before .before .before .before .before) in
+    let L = c .before .before .before .before .before in
+    let s = sizes (entered L) in
     search needs
 
 add-is-record-2 : tie.Need-add-is-record-2 Inv-loop μ-loop
 add-is-record-2 c =
-    let s = sizes (c .before .before .before .before .before .before .before .before .before .before .before) in
+    let L = c .before .before .before .before .before in
+    let s = sizes (entered L) in
     search needs
 
 mul-is-record-3 : tie.Need-mul-is-record-3 Inv-loop μ-loop
 mul-is-record-3 c =
-    let s = sizes (c .before .before .before .before .before .before .before .before .before .before .before) in
+    let L = c .before .before .before .before .before in
+    let s = sizes (entered L) in
+    let p = L .loop .inv .part in
     search needs
 
 add-is-record-3 : tie.Need-add-is-record-3 Inv-loop μ-loop
 add-is-record-3 c =
-    let s = sizes (c .before .before .before .before .before .before .before .before .before .before .before) in
+    let L = c .before .before .before .before .before in
+    let s = sizes (entered L) in
+    let p = L .loop .inv .part in
     search needs
 
 is-record-requires-2 : tie.Need-is-record-requires-2 Inv-loop μ-loop
 is-record-requires-2 c κs =
     let I = c .before .before .before .before in
-    let st = I .before .before .before .before .before .before .before in
-    omega (arith, st .pre .0 .4, length-automaton (patternsOf (st .args .set .now)), within I, st .pre .1 .0)
+    let st = entered (I .before) in
+    let m = st .pre .0 in
+    omega (arith, m .room, length-automaton (patternsOf (st .args .set .now)), within I, m .patterns)
 
 returns-2 : tie.Need-returns-2 Inv-loop μ-loop
 returns-2 c =
     let t = c .before in
     let r = t .before .before in
     let I = r .before .before .before in
-    let st = I .before .before .before .before .before .before .before in
-    let m = st .pre .0 in
+    let L = I .before in
+    let n = L .loop .n in
     sym
-    (begins-not (st .args .set .now) (m .0) (m .1) (I .before .loop .n) (within I) (st .args .words .now) _ (2 * st .args .k + 1 + 8 * I .before .loop .n) (m .4) (omega (arith, st .pre .1 .0)) (r .make-record .ensures .0)
+    (begins-not (L .loop .inv .made) n (within I) _ (2 * entered L .args .k + 1 + 8 * n) (omega arith) (r .make-record .ensures .0)
     (sym (t .is-record2 .ensures) ∙ not-true _ (c .if2 .taken)))
 
 add-n : tie.Need-add-n Inv-loop μ-loop
 add-n c =
     let I = c .before .before .before .before .before .before in
-    let st = I .before .before .before .before .before .before .before in
-    omega (arith, I .loop-test .taken, sizes st)
+    let s = sizes (entered (I .before)) in
+    omega (arith, I .loop-test .taken)
 
 loop-less : tie.Need-loop-less Inv-loop μ-loop
 loop-less c = search needs
@@ -153,20 +155,20 @@ loop-again c =
     let p = r .before .before in
     let I = p .before in
     let L = I .before in
-    let st = L .before .before .before .before .before .before in
-    let m = st .pre .0 in (
-      omega arith,
-      omega (arith, I .loop-test .taken),
-      along-next (patternsOf (st .args .set .now)) (L .loop .n) (p .next-parent .result) (r .make-record .result .end) (p .next-parent .ensures .1 .0) (r .make-record .ensures .1),
-      made-more (st .args .set .now) (m .0) (m .1) (L .loop .n) (within I) (st .args .words .now) (L .loop .inv .3) (2 * st .args .k + 1 + 8 * L .loop .n) (omega (arith, st .pre .1 .0))
-          (true-same _ _ (sym (t .is-record2 .ensures) ∙ not-false _ (c .if2 .left)) ∙ r .make-record .ensures .0),
-    )
+    let s = entered L in
+    let a = L .loop .inv in
+    let at = 2 * s .args .k + 1 + 8 * L .loop .n in
+    let e : take 8 (drop at (s .args .words .now)) ≡ recordOf (patternsOf (s .args .set .now)) (L .loop .n) =
+    true-same _ _ (sym (t .is-record2 .ensures) ∙ not-false _ (c .if2 .left)) ∙ r .make-record .ensures .0 in
+    along-next (s .pre .1) a (omega (arith, I .loop-test .taken)) (p .next-parent .result) (p .next-parent .ensures) (s .args .words .now)
+    (r .make-record .result .end)
+    (made-more (a .made) (within I) at (omega arith) e) (r .make-record .ensures .1)
 
 returns-3 : tie.Need-returns-3 Inv-loop μ-loop
 returns-3 c =
-    let L = c .before in
-    let st = L .before .before .before .before .before .before in
-    sym (begins-all (st .args .set .now) (st .args .words .now) (L .loop .n) (L .loop .inv .3) (omega (arith, c .loop-test .left, L .loop .inv .1, st .pre .1 .1)))
+    let a = c .before .loop .inv in
+    let e = entered (c .before) .pre .1 in
+    sym (begins-all (a .made) (omega (arith, c .loop-test .left, a .part)))
 
 pub are-records-spec : {M : Type 1} → statement M
 are-records-spec =

@@ -1,12 +1,8 @@
--- `is_record` meets its contract: the loop keeps that the words before place i are those of the record, so the first that is not, or the end, decides.
-use native.Mathlib.Omega.{arith}
-use borrow.Author.Needs.{needs}
-use borrow.Author.Count.{below-more}
-use mathlib.Core.Path.{_≡_, refl, sym}
-use Prim.Native.Nat.{ℕ, _+_, _-_, _≤_, _<_}
-use lib.ListN.{getD}
+-- `is_record` meets its contract: the loop keeps that the words before place i are those of the
+-- record, so the first that is not, or the end, decides.
+use Rattle.lists.proofs.Prelude.{_≡_, sym, refl, ℕ, _+_, _-_, _≤_, _<_, getD, arith, below-more, needs}
 use Rattle.automaton_records.specs.Words.{recordWords}
-use Rattle.automaton.proofs.More.{eight-same, eight-differ}
+use Rattle.automaton.proofs.EightWords.{eight-same, eight-differ}
 use Rattle.automaton.proofs.checking.is_record.Statement.{statement}
 use Rattle.automaton.proofs.checking.is_record.Tie as tie
 
@@ -36,8 +32,11 @@ array-read-if1 c = search needs
 
 returns : tie.Need-returns Inv-loop μ-loop
 returns c =
-    let st = c .before .before .before .before in
-    sym (eight-differ (st .args .words .now) (recordWords (st .args .r)) (st .args .at) (c .before .before .before .loop .i) (omega (arith, c .before .before .loop-test .taken)) (c .if1 .taken))
+    let L = c .before .before .before in
+    let s = L .before in
+    sym
+    (eight-differ (s .args .words .now) (recordWords (s .args .r)) (s .args .at) (L .loop .i) (omega (arith, c .before .before .loop-test .taken))
+    (c .if1 .taken))
 
 add-i : tie.Need-add-i Inv-loop μ-loop
 add-i c = search needs

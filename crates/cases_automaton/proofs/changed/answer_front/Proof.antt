@@ -1,7 +1,5 @@
 -- `answer_front` is safe and ends.
-use lib.ListN.{length-take}
-use native.Mathlib.Omega.{arith}
-use borrow.Author.Needs.{needs}
+use Rattle.lists.proofs.Prelude.{length-take, arith, needs}
 use Rattle.cases_automaton.proofs.changed.answer_front.Statement.{statement}
 use Rattle.cases_automaton.proofs.changed.answer_front.Tie as tie
 

@@ -1,8 +1,5 @@
 -- `needed` is safe and ends.
-use mathlib.Core.Path.{_≡_}
-use lib.ListN.{length}
-use Prim.Native.Nat.{_-_}
-use borrow.Author.Needs.{needs}
+use Rattle.lists.proofs.Prelude.{_≡_, _-_, length, needs}
 use Rattle.cases_automaton.proofs.changed.needed.Statement.{statement}
 use Rattle.cases_automaton.proofs.changed.needed.Tie as tie
 

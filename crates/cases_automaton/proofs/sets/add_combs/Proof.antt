@@ -1,8 +1,5 @@
 -- `add_combs` is safe and ends.
-use mathlib.Core.Path.{_≡_}
-use lib.ListN.{length}
-use Prim.Native.Nat.{_≤_, _-_}
-use borrow.Author.Needs.{needs}
+use Rattle.lists.proofs.Prelude.{_≡_, _-_, _≤_, length, needs}
 use Rattle.cases_automaton.proofs.sets.add_combs.Statement.{statement}
 use Rattle.cases_automaton.proofs.sets.add_combs.Tie as tie
 

@@ -1,8 +1,5 @@
 -- `full_in` is safe and ends.
-use mathlib.Core.Path.{_≡_}
-use lib.ListN.{length}
-use Prim.Native.Nat.{_-_}
-use borrow.Author.Needs.{needs}
+use Rattle.lists.proofs.Prelude.{_≡_, _-_, length, needs}
 use Rattle.cases_automaton.proofs.sets.full_in.Statement.{statement}
 use Rattle.cases_automaton.proofs.sets.full_in.Tie as tie
 
@@ -36,8 +33,11 @@ loop-less c = search needs
 loop-again : tie.Need-loop-again Inv-loop μ-loop
 loop-again c = search needs
 
-node-count-requires : tie.Need-node-count-requires Inv-loop μ-loop
-node-count-requires c κs = search needs
+compare-requires : tie.Need-compare-requires Inv-loop μ-loop
+compare-requires c κs = search needs
+
+expect-more-nodes-requires : tie.Need-expect-more-nodes-requires Inv-loop μ-loop
+expect-more-nodes-requires c κs = search needs
 
 same-length : tie.Need-same-length Inv-loop μ-loop
 same-length c = search needs
@@ -59,6 +59,7 @@ full-in-spec =
     add-j
     loop-less
     loop-again
-    node-count-requires
+    compare-requires
+    expect-more-nodes-requires
     same-length
     returns)

@@ -1,7 +1,5 @@
 -- `search` is safe and ends.
-use lib.ListN.{length-take}
-use native.Mathlib.Omega.{arith}
-use borrow.Author.Needs.{needs}
+use Rattle.lists.proofs.Prelude.{length-take, arith, needs}
 use Rattle.cases_filter.proofs.run.search.Statement.{statement}
 use Rattle.cases_filter.proofs.run.search.Tie as tie
 

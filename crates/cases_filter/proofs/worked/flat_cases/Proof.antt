@@ -1,14 +1,13 @@
 -- `flat_cases` is safe and ends.
-use Prim.Native.Nat.{_≤_, _-_}
-use borrow.Author.Needs.{needs}
+use Rattle.lists.proofs.Prelude.{_-_, _≤_, needs}
 use Rattle.cases_filter.proofs.worked.flat_cases.Statement.{statement}
 use Rattle.cases_filter.proofs.worked.flat_cases.Tie as tie
 
 abbrev Inv-loop : tie.InvT-loop
-Inv-loop t₀ n₀ t n = n ≤ 41
+Inv-loop group t₀ n₀ t n = n ≤ 41
 
 abbrev μ-loop : tie.MeasureT-loop
-μ-loop t₀ n₀ t n = 41 - n
+μ-loop group t₀ n₀ t n = 41 - n
 
 none-requires : tie.Need-none-requires Inv-loop μ-loop
 none-requires c κs = search needs
@@ -22,8 +21,11 @@ flat-case-requires c κs = search needs
 flat-case-requires-2 : tie.Need-flat-case-requires-2 Inv-loop μ-loop
 flat-case-requires-2 c κs = search needs
 
-count-requires : tie.Need-count-requires Inv-loop μ-loop
-count-requires c κs = search needs
+first-requires : tie.Need-first-requires Inv-loop μ-loop
+first-requires c κs = search needs
+
+numbered-requires : tie.Need-numbered-requires Inv-loop μ-loop
+numbered-requires c κs = search needs
 
 add-n : tie.Need-add-n Inv-loop μ-loop
 add-n c = search needs
@@ -47,7 +49,8 @@ flat-cases-spec =
     loop-holds
     flat-case-requires
     flat-case-requires-2
-    count-requires
+    first-requires
+    numbered-requires
     add-n
     loop-less
     loop-again

@@ -1,8 +1,5 @@
 -- `copy` is safe and ends.
-use borrow.Author.Needs.{needs}
-use Prim.Native.Nat.{_≤_, _-_}
-use mathlib.Core.Path.{_≡_}
-use lib.ListN.{length}
+use Rattle.lists.proofs.Prelude.{_≡_, _-_, _≤_, length, needs}
 use Rattle.cases_hits.proofs.inputs.copy.Statement.{statement}
 use Rattle.cases_hits.proofs.inputs.copy.Tie as tie
 

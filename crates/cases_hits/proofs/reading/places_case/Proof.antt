@@ -1,12 +1,10 @@
--- `places_case` is safe and ends.
-use native.Mathlib.Omega.{arith}
-use lib.ListN.{length-take}
-use borrow.Author.Needs.{needs}
+-- `places_case` is safe.
+use Rattle.lists.proofs.Prelude.{length-take, arith, needs}
 use Rattle.cases_hits.proofs.reading.places_case.Statement.{statement}
 use Rattle.cases_hits.proofs.reading.places_case.Tie as tie
 
-same-words-requires : tie.Need-same-words-requires
-same-words-requires c κs = search needs
+expect-words-requires : tie.Need-expect-words-requires
+expect-words-requires c κs = search needs
 
 last-requires : tie.Need-last-requires
 last-requires c κs = search needs
@@ -20,20 +18,20 @@ slice-aggregate-values-case c = simp length-take (omega arith)
 values-case-requires : tie.Need-values-case-requires
 values-case-requires c κs = search needs
 
+after-requires : tie.Need-after-requires
+after-requires c κs = search needs
+
 returns : tie.Need-returns
 returns c = search needs
-
-returns-2 : tie.Need-returns-2
-returns-2 c = search needs
 
 pub places-case-spec : {M : Type 1} → statement M
 places-case-spec =
     tie.close
     (tie.spec
-    same-words-requires
+    expect-words-requires
     last-requires
     small-requires
     slice-aggregate-values-case
     values-case-requires
-    returns
-    returns-2)
+    after-requires
+    returns)

@@ -1,15 +1,13 @@
--- `read_case` is safe and ends.
-use native.Mathlib.Omega.{arith}
-use lib.ListN.{length-take}
-use borrow.Author.Needs.{needs}
+-- `read_case` is safe.
+use Rattle.lists.proofs.Prelude.{length-take, arith, needs}
 use Rattle.cases_hits.proofs.reading.read_case.Statement.{statement}
 use Rattle.cases_hits.proofs.reading.read_case.Tie as tie
 
 number-requires : tie.Need-number-requires
 number-requires c κs = search needs
 
-is-bad-requires : tie.Need-is-bad-requires
-is-bad-requires c κs = search needs
+expect-bad-requires : tie.Need-expect-bad-requires
+expect-bad-requires c κs = search needs
 
 returns : tie.Need-returns
 returns c = search needs
@@ -34,7 +32,7 @@ read-case-spec =
     tie.close
     (tie.spec
     number-requires
-    is-bad-requires
+    expect-bad-requires
     returns
     number-requires-2
     small-requires

@@ -1,7 +1,6 @@
--- `set_cases::empty_case` is safe and ends. Each part lent is no longer than the array it is cut from.
-use lib.ListN.{length-take}
-use native.Mathlib.Omega.{arith}
-use borrow.Author.Needs.{needs}
+-- `set_cases::empty_case` is safe and ends. Each part lent is no longer than the array it is cut
+-- from.
+use Rattle.lists.proofs.Prelude.{length-take, arith, needs}
 use Rattle.cases_sets.proofs.set_cases.empty_case.Statement.{statement}
 use Rattle.cases_sets.proofs.set_cases.empty_case.Tie as tie
 

@@ -1,7 +1,5 @@
 -- `call` is safe and ends.
-use lib.ListN.{length-take, length-drop}
-use native.Mathlib.Omega.{arith}
-use borrow.Author.Needs.{needs}
+use Rattle.lists.proofs.Prelude.{length-take, length-drop, arith, needs}
 use Rattle.cases_stream.proofs.calls.call.Statement.{statement}
 use Rattle.cases_stream.proofs.calls.call.Tie as tie
 

@@ -1,8 +1,5 @@
 -- `place_reached` is safe and ends.
-use mathlib.Core.Path.{_≡_}
-use lib.ListN.{length}
-use Prim.Native.Nat.{_-_}
-use borrow.Author.Needs.{needs}
+use Rattle.lists.proofs.Prelude.{_≡_, _-_, length, needs}
 use Rattle.cases_stream.proofs.calls.place_reached.Statement.{statement}
 use Rattle.cases_stream.proofs.calls.place_reached.Tie as tie
 

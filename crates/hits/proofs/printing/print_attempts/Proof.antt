@@ -1,7 +1,5 @@
 -- `print_attempts` is safe and ends. The part printed is no longer than the buffer.
-use native.Mathlib.Omega.{arith}
-use lib.ListN.{length-take}
-use borrow.Author.Needs.{needs}
+use Rattle.lists.proofs.Prelude.{length-take, arith, needs}
 use Rattle.hits.proofs.printing.print_attempts.Statement.{statement}
 use Rattle.hits.proofs.printing.print_attempts.Tie as tie
 

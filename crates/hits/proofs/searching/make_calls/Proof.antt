@@ -1,13 +1,11 @@
 -- `make_calls` is safe and ends.
-use borrow.Author.Needs.{needs}
-use Prim.Native.Nat.{_≤_, _-_}
-use mathlib.Core.Path.{_≡_}
-use lib.ListN.{length}
+use Rattle.lists.proofs.Prelude.{_≡_, _-_, _≤_, length, needs}
 use Rattle.hits.proofs.searching.make_calls.Statement.{statement}
 use Rattle.hits.proofs.searching.make_calls.Tie as tie
 
 abbrev Inv-loop : tie.InvT-loop
-Inv-loop set automaton text hits₀ out₀ state₀ attempts₀ turns₀ hits out state attempts turns = (turns ≤ 40000) × (length hits ≡ length hits₀) × (length out ≡ length out₀)
+Inv-loop set automaton text hits₀ out₀ state₀ attempts₀ turns₀ hits out state attempts turns =
+    (turns ≤ 40000) × (length hits ≡ length hits₀) × (length out ≡ length out₀)
 
 abbrev μ-loop : tie.MeasureT-loop
 μ-loop set automaton text hits₀ out₀ state₀ attempts₀ turns₀ hits out state attempts turns = 40000 - turns

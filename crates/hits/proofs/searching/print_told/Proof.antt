@@ -1,7 +1,5 @@
 -- `print_told` is safe and ends.
-use native.Mathlib.Omega.{arith}
-use lib.ListN.{length-take}
-use borrow.Author.Needs.{needs}
+use Rattle.lists.proofs.Prelude.{length-take, arith, needs}
 use Rattle.hits.proofs.searching.print_told.Statement.{statement}
 use Rattle.hits.proofs.searching.print_told.Tie as tie
 

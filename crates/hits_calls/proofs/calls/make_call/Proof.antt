@@ -1,8 +1,6 @@
--- `make_call` meets its contract: the words of the call's hits lie at the front of the array, and the text of these is written (`Text`).
-use mathlib.Core.Path.{refl, sym, _∙_, ap}
-use native.Mathlib.Omega.{arith}
-use lib.ListN.{length-take}
-use borrow.Author.Needs.{needs}
+-- `make_call` meets its contract: the words of the call's hits lie at the front of the array, and
+-- the text of these is written (`Text`).
+use Rattle.lists.proofs.Prelude.{_∙_, ap, sym, refl, length-take, arith, needs}
 use Rattle.hits_calls.specs.Called.{summary}
 use Rattle.hits_calls.proofs.Text.{accepted-good, told-count, told-fit, told-below, told-lines, called-accepted, called-refused, called-fits}
 use Rattle.hits_calls.proofs.calls.make_call.Statement.{statement}
@@ -23,19 +21,24 @@ slice-aggregate-stream-search c = simp length-take (omega arith)
 stream-search-requires : tie.Need-stream-search-requires
 stream-search-requires c κs = search needs
 
-tell-requires : tie.Need-tell-requires
-tell-requires c κs = search needs
+summary-of-requires : tie.Need-summary-of-requires
+summary-of-requires c κs = search needs
 
 write-lines-requires : tie.Need-write-lines-requires
 write-lines-requires c κs =
     let s = c .before .before .before .before .before .before .before .before in
     let S = s .before .before .before .before .before .before .before in
     let E = s .stream-search .ensures in
-    let t = c .before .before .before .before .tell .ensures in
+    let t = c .before .before .before .before .summary-of .ensures in
     let room = s .before .before .smaller .ensures in
     let e = ap (λ z. z .0) (sym (E .0)) ∙ sym (ap (λ z. z .0) t) ∙ c .before .before .if1 .taken in
-    let n = told-count _ _ _ _ _ _ e (E .1 .1) (search needs) _ _ _ _ (t ∙ ap summary (E .0)) in
-    (accepted-good _ _ _ _ _ _ e (E .1 .1) (search needs), ((told-fit _ _ _ _ _ _ e (E .1 .1) (search needs) _ _ n, told-below _ _ _ _ _ _ e (E .1 .1) (search needs) _ _ n), told-lines _ _ _ _ _ _ e (E .1 .1) (search needs) _ (S .args .out .now) n (simp length-take (omega (arith, room .2)))))
+    let n = told-count _ _ _ _ _ _ e (E .1 .1) (search needs) _ _ _ _ (t ∙ ap summary (E .0)) in (
+      accepted-good _ _ _ _ _ _ e (E .1 .1) (search needs),
+      (
+        (told-fit _ _ _ _ _ _ e (E .1 .1) (search needs) _ _ n, told-below _ _ _ _ _ _ e (E .1 .1) (search needs) _ _ n),
+        told-lines _ _ _ _ _ _ e (E .1 .1) (search needs) _ (S .args .out .now) n (simp length-take (omega (arith, room .2))),
+      ),
+    )
 
 same-length : tie.Need-same-length
 same-length c = search needs
@@ -45,14 +48,16 @@ same-length-2 c = search needs
 
 returns : tie.Need-returns
 returns c =
-    let s = c .before .before .before .before .before .before .before .before .before .before .before in
-    let S = s .before .before .before .before .before .before .before in
+    let told = c .before .before .before .before .before .before .before in
+    let s = told .before .before .before .before in
+    let a = s .before .before .before .before .before .before .before .args in
     let E = s .stream-search .ensures in
-    let t = c .before .before .before .before .before .before .before .tell .ensures in
     let room = s .before .before .smaller .ensures in
     let W = c .before .before .write-lines .ensures in
     let r =
-    called-accepted (S .args .set .now) (S .args .automaton .now) (S .args .state) (S .args .values .now) (S .args .hits .now) (S .args .out .now) _ _ _ _ (room .0) (room .1) (t ∙ ap summary (E .0)) (E .1 .0) (E .1 .1) (c .before .before .before .before .before .if1 .taken) (search needs) (W .0 .0, W .1) in
+    called-accepted (a .set .now) (a .automaton .now) (a .state) (a .values .now) (a .hits .now) (a .out .now) _ _ _ _ (room .0) (room .1)
+    (told .summary-of .ensures ∙ ap summary (E .0)) (E .1 .0) (E .1 .1) (c .before .before .before .before .before .if1 .taken) (search needs)
+    (W .0 .0, W .1) in
     (r, called-fits _ _ _ _ _ _ _ _ _ r)
 
 same-length-3 : tie.Need-same-length-3
@@ -61,11 +66,12 @@ same-length-3 c = search needs
 returns-2 : tie.Need-returns-2
 returns-2 c =
     let s = c .before .before .before .before .before .before in
-    let S = s .before .before .before .before .before .before .before in
+    let a = s .before .before .before .before .before .before .before .args in
     let E = s .stream-search .ensures in
-    let t = c .before .before .tell .ensures in
+    let t = c .before .before .summary-of .ensures in
     let room = s .before .before .smaller .ensures in (
-      called-refused (S .args .set .now) (S .args .automaton .now) (S .args .state) (S .args .values .now) (S .args .hits .now) (S .args .out .now) _ _ _ _ (room .0) (room .1) (t ∙ ap summary (E .0)) (E .1 .0) (E .1 .1) (c .if1 .left) refl refl,
+      called-refused (a .set .now) (a .automaton .now) (a .state) (a .values .now) (a .hits .now) (a .out .now) _ _ _ _ (room .0) (room .1)
+          (t ∙ ap summary (E .0)) (E .1 .0) (E .1 .1) (c .if1 .left) refl refl,
       omega arith,
     )
 
@@ -78,7 +84,7 @@ make-call-spec =
     slice-relend-prefix-stream-search
     slice-aggregate-stream-search
     stream-search-requires
-    tell-requires
+    summary-of-requires
     write-lines-requires
     same-length
     same-length-2

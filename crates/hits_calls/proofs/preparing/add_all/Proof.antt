@@ -1,16 +1,13 @@
 -- `add_all` is safe and ends. The measure is the number of patterns left.
-use mathlib.Core.Path.{_≡_}
-use Prim.Native.Nat.{_-_, _≤_}
-use lib.ListN.{length}
-use borrow.Author.Needs.{needs}
+use Rattle.lists.proofs.Prelude.{_≡_, _-_, _≤_, length, needs}
 use Rattle.hits_calls.proofs.preparing.add_all.Statement.{statement}
 use Rattle.hits_calls.proofs.preparing.add_all.Tie as tie
 
 abbrev Inv-loop : tie.InvT-loop
-Inv-loop set₀ values places n from₀ j₀ set from j = (length set ≡ length set₀) × (n ≡ length values) × (j ≤ length places)
+Inv-loop set₀ values ends n from₀ j₀ set from j = (length set ≡ length set₀) × (n ≡ length values) × (j ≤ length ends)
 
 abbrev μ-loop : tie.MeasureT-loop
-μ-loop set₀ values places n from₀ j₀ set from j = length places - j
+μ-loop set₀ values ends n from₀ j₀ set from j = length ends - j
 
 loop-holds : tie.Need-loop-holds Inv-loop μ-loop
 loop-holds c = search needs

@@ -1,11 +1,9 @@
--- `room::append` makes room and has the distances written into the part of the array that starts behind the set's own.
-use Prim.Native.Nat.{_+_, _-_}
-use mathlib.Core.Path.{refl}
-use lib.ListN.{length}
+-- `room::append` makes room and has the distances written into the part of the array that starts
+-- behind the set's own.
+use Rattle.lists.proofs.Prelude.{refl, _+_, _-_, length, needs}
 use Rattle.cartesian.specs.Cartesian.{distances}
 use Rattle.cartesian.proofs.Seek.{length-distances}
 use Rattle.set_arrays.proofs.Laws.{append-part}
-use borrow.Author.Needs.{needs}
 use Rattle.set_arrays.proofs.room.append.Statement.{statement}
 use Rattle.set_arrays.proofs.room.append.Tie as tie
 
@@ -41,7 +39,8 @@ returns c =
     let a = c .before .before .before .before .before .before .before .before .before .args in
     let r = c .before .before .before .before .before .before .make-room in
     let p = c .before .before .parent-distances in
-    append-part (a .k) (a .n) (length (a .values .now)) (4 + a .k + a .n) (length (r .last .0) - (4 + a .k + a .n)) (distances (a .values .now)) (a .words .now) (r .last .0) (p .last .1 .0) (length-distances (a .values .now)) (r .ensures) refl refl (p .ensures)
+    append-part (a .k) (a .n) (length (a .values .now)) (4 + a .k + a .n) (length (r .last .0) - (4 + a .k + a .n)) (distances (a .values .now))
+    (a .words .now) (r .last .0) (p .last .1 .0) (length-distances (a .values .now)) (r .ensures) refl refl (p .ensures)
 
 pub append-spec : {M : Type 1} → statement M
 append-spec =

@@ -1,12 +1,6 @@
 -- `room::make_room` moves the distances up, and then stores the new offset and the two counts.
-use Prim.Native.Nat.{_+_}
-use mathlib.Core.Path.{ap}
-use mathlib.Core.List.{List}
-use Prim.Native.Nat.{ℕ}
-use lib.ListN.{set, length-set}
+use Rattle.lists.proofs.Prelude.{ap, List, ℕ, _+_, set, length-set, arith, needs}
 use Rattle.set_arrays.specs.Moved.{withRoom}
-use native.Mathlib.Omega.{arith}
-use borrow.Author.Needs.{needs}
 use Rattle.set_arrays.proofs.room.make_room.Statement.{statement}
 use Rattle.set_arrays.proofs.room.make_room.Tie as tie
 

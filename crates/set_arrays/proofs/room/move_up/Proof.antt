@@ -1,21 +1,19 @@
--- `room::move_up` leaves each word one place further up. The loop's invariant: the words from `at + i` on have been moved, and those up to it are as they were.
-use Prim.Native.Nat.{_≤_, _-_}
-use mathlib.Core.Path.{_≡_, refl, _∙_}
-use lib.ListN.{length, length-set}
-use Rattle.set_arrays.proofs.Moving.{movedFrom, moved-none, moved-more, moved-all}
-use native.Mathlib.Omega.{arith}
-use borrow.Author.Needs.{needs}
+-- `room::move_up` leaves each word one place further up. The loop's invariant: the words from `at +
+-- i` on have been moved, and those up to it are as they were.
+use Rattle.lists.proofs.Prelude.{_≡_, _∙_, refl, _+_, _-_, _≤_, length, length-set, arith, needs}
+use Rattle.lists.proofs.Moving.{moved, moved-none, moved-more}
+use Rattle.set_arrays.proofs.Laws.{moved-all}
 use Rattle.set_arrays.proofs.room.move_up.Statement.{statement}
 use Rattle.set_arrays.proofs.room.move_up.Tie as tie
 
 abbrev Inv-loop : tie.InvT-loop
-Inv-loop words₀ at n i₀ words i = (i ≤ n) × (length words ≡ length words₀) × (words ≡ movedFrom at i n words₀)
+Inv-loop words₀ at n i₀ words i = (i ≤ n) × (length words ≡ length words₀) × (words ≡ moved words₀ (at + i) (at + n))
 
 abbrev μ-loop : tie.MeasureT-loop
 μ-loop words₀ at n i₀ words i = i
 
 loop-holds : tie.Need-loop-holds Inv-loop μ-loop
-loop-holds c = (omega arith, refl, moved-none (c .args .at) (c .args .n) (c .args .words .now))
+loop-holds c = (omega arith, refl, moved-none (c .args .words .now) (c .args .at + c .args .n))
 
 add-to : tie.Need-add-to Inv-loop μ-loop
 add-to c = search needs
@@ -44,10 +42,11 @@ loop-less c = search needs
 loop-again : tie.Need-loop-again Inv-loop μ-loop
 loop-again c =
     let L = c .before .before .loop in
-    let a = c .before .before .before .args in (
+    let a = c .before .before .before .args in
+    let e : a .at + L .i - 1 ≡ a .at + (L .i - 1) = omega arith in (
       omega arith,
       simp length-set (L .inv .1),
-      moved-more (a .at) (L .i) (a .n) (a .words .now) (L .words) (omega arith) (L .inv .0) (omega arith) (L .inv .2),
+      rw (L .inv .2, ← e) (moved-more (a .words .now) (a .at + L .i) (a .at + a .n) (omega arith) (omega (arith, L .inv .0)) (omega arith)),
     )
 
 same-length : tie.Need-same-length Inv-loop μ-loop

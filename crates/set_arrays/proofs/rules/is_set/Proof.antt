@@ -1,16 +1,14 @@
--- `rules::is_set` answers whether the array begins with a good set's words: each rule is tested, and where one is broken no good set's words stand there.
-use Prim.Native.Nat.{_≤_, _+_}
-use mathlib.Core.Path.{sym, _∙_}
-use borrow.Author.Tests.{not-true, not-false}
-use lib.ListN.{length, getD}
+-- `rules::is_set` answers whether the array begins with a good set's words: each rule is tested,
+-- and where one is broken no good set's words stand there.
+use Rattle.lists.proofs.Prelude.{_∙_, sym, _+_, _≤_, length, getD, arith, not-false, not-true, needs}
 use Rattle.set_arrays.proofs.Laws.{sizes-fact, no-sizes, no-first, no-rise, no-last, lists-decide}
-use native.Mathlib.Omega.{arith}
-use borrow.Author.Needs.{needs}
 use Rattle.set_arrays.proofs.rules.is_set.Statement.{statement}
 use Rattle.set_arrays.proofs.rules.is_set.Tie as tie
 
 -- the counts are in their limits
-fit : (c : tie.Else1) → (getD (c .before .before .before .args .words .now) 0 0 ≤ 64) × (getD (c .before .before .before .args .words .now) 1 0 ≤ 4096) × (3 + getD (c .before .before .before .args .words .now) 0 0 + getD (c .before .before .before .args .words .now) 1 0 ≤ length (c .before .before .before .args .words .now))
+fit : (c : tie.Else1) →
+    let ws = c .before .before .before .args .words .now in
+    (getD ws 0 0 ≤ 64) × (getD ws 1 0 ≤ 4096) × (3 + getD ws 0 0 + getD ws 1 0 ≤ length ws)
 fit c = sizes-fact (c .before .before .before .args .words .now) (sym (c .before .sizes-fit .ensures) ∙ not-false _ (c .if1 .left))
 
 sizes-fit-requires : tie.Need-sizes-fit-requires
@@ -35,7 +33,9 @@ offsets-rise-requires : tie.Need-offsets-rise-requires
 offsets-rise-requires c κs = omega (arith, fit (c .before .before .before .before), c .before .before .wide .ensures)
 
 returns-3 : tie.Need-returns-3
-returns-3 c = no-rise (c .before .before .before .before .before .before .before .before .before .args .words .now) _ (c .before .before .before .before .wide .ensures) (sym (c .before .offsets-rise .ensures) ∙ not-true _ (c .if3 .taken))
+returns-3 c =
+    no-rise (c .before .before .before .before .before .before .before .before .before .args .words .now) _ (c .before .before .before .before .wide .ensures)
+    (sym (c .before .offsets-rise .ensures) ∙ not-true _ (c .if3 .taken))
 
 add-if4 : tie.Need-add-if4
 add-if4 c = omega (arith, fit (c .before .before .before .before .before .before), c .before .before .before .before .wide .ensures)
@@ -44,24 +44,35 @@ mul-if4 : tie.Need-mul-if4
 mul-if4 c = omega (arith, fit (c .before .before .before .before .before .before), c .before .before .before .before .wide .ensures)
 
 shared-slice-read-if4 : tie.Need-shared-slice-read-if4
-shared-slice-read-if4 c = omega (arith, fit (c .before .before .before .before .before .before .before), c .before .before .before .before .before .wide .ensures)
+shared-slice-read-if4 c =
+    omega (arith, fit (c .before .before .before .before .before .before .before), c .before .before .before .before .before .wide .ensures)
 
 shared-slice-read-if4-2 : tie.Need-shared-slice-read-if4-2
 shared-slice-read-if4-2 c = omega (arith, fit (c .before .before .before .before .before .before .before .before))
 
 returns-4 : tie.Need-returns-4
-returns-4 c = no-last (c .before .before .before .before .before .before .before .before .before .before .before .before .args .words .now) _ (c .before .before .before .before .before .before .before .wide .ensures) (c .if4 .taken)
+returns-4 c =
+    let k = c .before .before .before .before .before .before .before in
+    no-last (k .before .before .before .before .before .args .words .now) _ (k .wide .ensures) (c .if4 .taken)
 
 lists-realizable-requires : tie.Need-lists-realizable-requires
 lists-realizable-requires c κs =
-    let f = fit (c .before .before .before .before .before .before .before .before .before) in
-    let k = c .before .before .before .before .before .before .before .wide .ensures in
-    ((k, omega (arith, f, k), omega (arith, f, c .if4 .left), omega (arith, f, k, c .if4 .left)), sym (c .before .before .before .before .offsets-rise .ensures) ∙ not-false _ (c .before .before .before .if3 .left))
+    let r = c .before .before .before .before in
+    let k = r .before .before .before in
+    let f = fit (k .before .before) in
+    let e = k .wide .ensures in (
+      (e, omega (arith, f, e), omega (arith, f, c .if4 .left), omega (arith, f, e, c .if4 .left)),
+      sym (r .offsets-rise .ensures) ∙ not-false _ (c .before .before .before .if3 .left),
+    )
 
 returns-5 : tie.Need-returns-5
 returns-5 c =
+    let r = c .before .before .before .before .before in
+    let k = r .before .before .before in
+    let s = k .before .before in
     c .lists-realizable .ensures
-    ∙ lists-decide (c .before .before .before .before .before .before .before .before .before .before .before .before .before .args .words .now) _ (c .before .before .before .before .before .before .before .before .wide .ensures) (sym (c .before .before .before .before .before .before .before .before .before .before .before .sizes-fit .ensures) ∙ not-false _ (c .before .before .before .before .before .before .before .before .before .before .if1 .left)) (c .before .before .before .before .before .before .if2 .left) (sym (c .before .before .before .before .before .offsets-rise .ensures) ∙ not-false _ (c .before .before .before .before .if3 .left)) (c .before .if4 .left)
+    ∙ lists-decide (s .before .before .before .args .words .now) _ (k .wide .ensures) (sym (s .before .sizes-fit .ensures) ∙ not-false _ (s .if1 .left))
+    (r .before .if2 .left) (sym (r .offsets-rise .ensures) ∙ not-false _ (c .before .before .before .before .if3 .left)) (c .before .if4 .left)
 
 pub is-set-spec : {M : Type 1} → statement M
 is-set-spec =

@@ -1,16 +1,11 @@
--- `rules::lists_realizable` answers the definition's test. The loop's invariant: the lists passed are realizable. The offsets rise up to the last one, so each list lies within the array.
-use Prim.Native.Nat.{_≤_, _-_, _+_}
-use mathlib.Core.Path.{_≡_, refl, sym, ap, _∙_}
-use mathlib.Core.Bool.{true}
-use lib.ListN.{getD}
+-- `rules::lists_realizable` answers the definition's test. The loop's invariant: the lists passed
+-- are realizable. The offsets rise up to the last one, so each list lies within the array.
+use Rattle.lists.proofs.Prelude.{_≡_, _∙_, ap, sym, refl, true, _+_, _-_, _≤_, getD, arith, not-false, not-true, needs}
+use Rattle.lists.proofs.Members.{below-none, below-more, below-fails}
 use Rattle.realization.specs.Realization.{realizable}
 use Rattle.pattern_set.specs.PatternSet.{patternIn}
 use Rattle.set_arrays.specs.Rules.{listsRealizable}
-use Rattle.set_arrays.proofs.Each.{each-none, each-more, each-fails}
 use Rattle.set_arrays.proofs.Laws.{list-within, list-lent}
-use borrow.Author.Tests.{not-true, not-false}
-use native.Mathlib.Omega.{arith}
-use borrow.Author.Needs.{needs}
 use Rattle.set_arrays.proofs.rules.lists_realizable.Statement.{statement}
 use Rattle.set_arrays.proofs.rules.lists_realizable.Tie as tie
 
@@ -20,28 +15,42 @@ Inv-loop words k j₀ j = (j ≤ k) × (listsRealizable words j ≡ true)
 abbrev μ-loop : tie.MeasureT-loop
 μ-loop words k j₀ j = k - j
 
--- the two offsets between which the list of this turn lies
-starts : (c : tie.After-wide Inv-loop μ-loop) → c .wide .result ≤ getD (c .before .before .before .before .before .args .words .now) (2 + c .before .before .before .before .before .args .k) 0
+-- the two offsets between which the list of this turn lies are not above the last one
+starts : (c : tie.After-wide Inv-loop μ-loop) →
+    let a = c .before .before .before .before .before .args in
+    c .wide .result ≤ getD (a .words .now) (2 + a .k) 0
 starts c =
     let st = c .before .before .before .before .before in
-    let r = list-within (st .args .words .now) (st .args .k) (c .before .before .before .loop .j) (c .wide .result) (getD (st .args .words .now) (3 + c .before .before .before .loop .j) 0) (st .pre .1) (c .before .before .loop-test .taken) (c .wide .ensures) refl in
+    let j = c .before .before .before .loop .j in
+    let next = getD (st .args .words .now) (3 + j) 0 in
+    let r =
+    list-within (st .args .words .now) (st .args .k) j (c .wide .result) next (st .pre .1) (c .before .before .loop-test .taken) (c .wide .ensures) refl in
     omega (arith, r .0, r .1)
 
-within : (c : tie.After-wide2 Inv-loop μ-loop) → (c .before .before .wide .result ≤ c .wide2 .result) × (c .wide2 .result ≤ getD (c .before .before .before .before .before .before .before .args .words .now) (2 + c .before .before .before .before .before .before .before .args .k) 0)
+within : (c : tie.After-wide2 Inv-loop μ-loop) →
+    let a = c .before .before .before .before .before .before .before .args in
+    (c .before .before .wide .result ≤ c .wide2 .result) × (c .wide2 .result ≤ getD (a .words .now) (2 + a .k) 0)
 within c =
-    let st = c .before .before .before .before .before .before .before in
-    list-within (st .args .words .now) (st .args .k) (c .before .before .before .before .before .loop .j) _ _ (st .pre .1) (c .before .before .before .before .loop-test .taken) (c .before .before .wide .ensures) (c .wide2 .ensures)
+    let first = c .before .before in
+    let st = first .before .before .before .before .before in
+    list-within (st .args .words .now) (st .args .k) (first .before .before .before .loop .j) _ _ (st .pre .1) (first .before .before .loop-test .taken)
+    (first .wide .ensures) (c .wide2 .ensures)
 
 -- the test of the list that was lent is the test of the list
-tested : (c : tie.After-is-realizable Inv-loop μ-loop) → c .is-realizable .result ≡ realizable (patternIn (c .before .before .before .before .before .before .before .before .before .args .words .now) (c .before .before .before .before .before .before .before .loop .j))
+tested : (c : tie.After-is-realizable Inv-loop μ-loop) →
+    let first = c .before .before .before .before in
+    c .is-realizable .result ≡ realizable
+    (patternIn (first .before .before .before .before .before .args .words .now) (first .before .before .before .loop .j))
 tested c =
     let w = c .before .before in
-    let st = w .before .before .before .before .before .before .before in
+    let first = w .before .before in
+    let st = first .before .before .before .before .before in
+    let j = first .before .before .before .loop .j in
     c .is-realizable .ensures
-    ∙ ap realizable (list-lent (st .args .words .now) (st .args .k) (w .before .before .before .before .before .loop .j) _ _ (st .pre .0 .0) (w .before .before .wide .ensures) (w .wide2 .ensures))
+    ∙ ap realizable (list-lent (st .args .words .now) (st .args .k) j _ _ (st .pre .0 .0) (first .wide .ensures) (w .wide2 .ensures))
 
 loop-holds : tie.Need-loop-holds Inv-loop μ-loop
-loop-holds c = (search needs, each-none _)
+loop-holds c = (search needs, below-none _)
 
 add-start : tie.Need-add-start Inv-loop μ-loop
 add-start c = search needs
@@ -96,9 +105,9 @@ is-realizable-requires c κs = search needs
 
 returns : tie.Need-returns Inv-loop μ-loop
 returns c =
-    let st = c .before .before .before .before .before .before .before .before .before .before in
-    let L = c .before .before .before .before .before .before .before .before .loop in
-    sym (each-fails (λ j. realizable (patternIn (st .args .words .now) j)) _ (L .j) (c .before .before .before .before .before .before .before .loop-test .taken)
+    let turn = c .before .before .before .before .before .before .before in
+    let words = turn .before .before .before .args .words .now in
+    sym (below-fails (λ j. realizable (patternIn words j)) _ (turn .before .loop .j) (turn .loop-test .taken)
     (sym (tested (c .before)) ∙ not-true _ (c .if1 .taken)))
 
 add-j : tie.Need-add-j Inv-loop μ-loop
@@ -109,10 +118,11 @@ loop-less c = search needs
 
 loop-again : tie.Need-loop-again Inv-loop μ-loop
 loop-again c =
-    let st = c .before .before .before .before .before .before .before .before .before .before in
-    let L = c .before .before .before .before .before .before .before .before .loop in (
+    let turn = c .before .before .before .before .before .before .before in
+    let words = turn .before .before .before .args .words .now in
+    let L = turn .before .loop in (
       omega arith,
-      each-more (λ j. realizable (patternIn (st .args .words .now) j)) (L .j) (L .inv .1) (sym (tested (c .before)) ∙ not-false _ (c .if1 .left)),
+      below-more (λ j. realizable (patternIn words j)) (L .j) (L .inv .1) (sym (tested (c .before)) ∙ not-false _ (c .if1 .left)),
     )
 
 returns-2 : tie.Need-returns-2 Inv-loop μ-loop

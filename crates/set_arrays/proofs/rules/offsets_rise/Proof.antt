@@ -1,13 +1,8 @@
--- `rules::offsets_rise` answers the definition's test. The loop's invariant: the offsets passed rise; the first one that does not is the answer.
-use Prim.Native.Nat.{_≤_, _-_, _+_}
-use mathlib.Core.Path.{_≡_, sym, ap, _∙_}
-use mathlib.Core.Bool.{true}
-use lib.ListN.{getD}
-use Rattle.set_arrays.specs.Rules.{rises, offsetsRise}
-use Rattle.set_arrays.proofs.Each.{each-none, each-more, each-fails}
-use borrow.Author.Tests.{not-true, not-false}
-use native.Mathlib.Omega.{arith}
-use borrow.Author.Needs.{needs}
+-- `rules::offsets_rise` answers the definition's test. The loop's invariant: the offsets passed
+-- rise; the first one that does not is the answer.
+use Rattle.lists.proofs.Prelude.{_≡_, _∙_, ap, sym, true, _+_, _-_, _≤_, getD, arith, not-false, not-true, needs}
+use Rattle.lists.proofs.Members.{below-none, below-more, below-fails}
+use Rattle.set_arrays.specs.Rules.{isNextOffset, offsetsRise}
 use Rattle.set_arrays.proofs.rules.offsets_rise.Statement.{statement}
 use Rattle.set_arrays.proofs.rules.offsets_rise.Tie as tie
 
@@ -18,34 +13,35 @@ abbrev μ-loop : tie.MeasureT-loop
 μ-loop words k j₀ j = k - j
 
 loop-holds : tie.Need-loop-holds Inv-loop μ-loop
-loop-holds c = (search needs, each-none _)
+loop-holds c = (search needs, below-none _)
 
-add-rises : tie.Need-add-rises Inv-loop μ-loop
-add-rises c = search needs
+add-is-next-offset : tie.Need-add-is-next-offset Inv-loop μ-loop
+add-is-next-offset c = search needs
 
-mul-rises : tie.Need-mul-rises Inv-loop μ-loop
-mul-rises c = search needs
+mul-is-next-offset : tie.Need-mul-is-next-offset Inv-loop μ-loop
+mul-is-next-offset c = search needs
 
-shared-slice-read-rises : tie.Need-shared-slice-read-rises Inv-loop μ-loop
-shared-slice-read-rises c = search needs
+shared-slice-read-is-next-offset : tie.Need-shared-slice-read-is-next-offset Inv-loop μ-loop
+shared-slice-read-is-next-offset c = search needs
 
-add-rises-2 : tie.Need-add-rises-2 Inv-loop μ-loop
-add-rises-2 c = search needs
+add-is-next-offset-2 : tie.Need-add-is-next-offset-2 Inv-loop μ-loop
+add-is-next-offset-2 c = search needs
 
-mul-rises-2 : tie.Need-mul-rises-2 Inv-loop μ-loop
-mul-rises-2 c = search needs
+mul-is-next-offset-2 : tie.Need-mul-is-next-offset-2 Inv-loop μ-loop
+mul-is-next-offset-2 c = search needs
 
-shared-slice-read-rises-2 : tie.Need-shared-slice-read-rises-2 Inv-loop μ-loop
-shared-slice-read-rises-2 c = search needs
+shared-slice-read-is-next-offset-2 : tie.Need-shared-slice-read-is-next-offset-2 Inv-loop μ-loop
+shared-slice-read-is-next-offset-2 c = search needs
 
-rises-requires : tie.Need-rises-requires Inv-loop μ-loop
-rises-requires c κs = search needs
+is-next-offset-requires : tie.Need-is-next-offset-requires Inv-loop μ-loop
+is-next-offset-requires c κs = search needs
 
 returns : tie.Need-returns Inv-loop μ-loop
 returns c =
-    let words = c .before .before .before .before .before .before .before .args .words .now in
-    let L = c .before .before .before .before .before .loop in
-    sym (each-fails (λ j. rises (getD words (2 + j) 0) (getD words (3 + j) 0)) _ (L .j) (c .before .before .before .before .loop-test .taken) (sym (c .before .rises .ensures) ∙ not-true _ (c .if1 .taken)))
+    let turn = c .before .before .before .before in
+    let words = turn .before .before .before .args .words .now in
+    sym (below-fails (λ j. isNextOffset (getD words (2 + j) 0) (getD words (3 + j) 0)) _ (turn .before .loop .j) (turn .loop-test .taken)
+    (sym (c .before .is-next-offset .ensures) ∙ not-true _ (c .if1 .taken)))
 
 add-j : tie.Need-add-j Inv-loop μ-loop
 add-j c = search needs
@@ -55,9 +51,13 @@ loop-less c = search needs
 
 loop-again : tie.Need-loop-again Inv-loop μ-loop
 loop-again c =
-    let words = c .before .before .before .before .before .before .before .args .words .now in
-    let L = c .before .before .before .before .before .loop in
-    (omega arith, each-more (λ j. rises (getD words (2 + j) 0) (getD words (3 + j) 0)) (L .j) (L .inv .1) (sym (c .before .rises .ensures) ∙ not-false _ (c .if1 .left)))
+    let turn = c .before .before .before .before in
+    let words = turn .before .before .before .args .words .now in
+    let L = turn .before .loop in (
+      omega arith,
+      below-more (λ j. isNextOffset (getD words (2 + j) 0) (getD words (3 + j) 0)) (L .j) (L .inv .1)
+          (sym (c .before .is-next-offset .ensures) ∙ not-false _ (c .if1 .left)),
+    )
 
 returns-2 : tie.Need-returns-2 Inv-loop μ-loop
 returns-2 c =
@@ -72,13 +72,13 @@ offsets-rise-spec =
     Inv-loop
     μ-loop
     loop-holds
-    add-rises
-    mul-rises
-    shared-slice-read-rises
-    add-rises-2
-    mul-rises-2
-    shared-slice-read-rises-2
-    rises-requires
+    add-is-next-offset
+    mul-is-next-offset
+    shared-slice-read-is-next-offset
+    add-is-next-offset-2
+    mul-is-next-offset-2
+    shared-slice-read-is-next-offset-2
+    is-next-offset-requires
     returns
     add-j
     loop-less

@@ -1,6 +1,6 @@
--- `rules::sizes_fit` answers the definition's test: an array of under three words is too short for any counts, and no sum of counts above their limits is made.
-use native.Mathlib.Omega.{arith}
-use borrow.Author.Needs.{needs}
+-- `rules::sizes_fit` answers the definition's test: an array of under three words is too short for
+-- any counts, and no sum of counts above their limits is made.
+use Rattle.lists.proofs.Prelude.{arith, needs}
 use Rattle.set_arrays.proofs.Laws.{sizes-short, sizes-many, sizes-long, sizes-room}
 use Rattle.set_arrays.proofs.rules.sizes_fit.Statement.{statement}
 use Rattle.set_arrays.proofs.rules.sizes_fit.Tie as tie
@@ -24,7 +24,9 @@ wide-requires-2 : tie.Need-wide-requires-2
 wide-requires-2 c κs = search needs
 
 returns-3 : tie.Need-returns-3
-returns-3 c = sizes-long (c .before .before .before .before .before .before .before .before .args .words .now) _ _ (c .before .before .before .before .wide .ensures) (omega (arith, c .before .before .before .if2 .left)) (c .before .wide2 .ensures) (omega (arith, c .if3 .taken))
+returns-3 c =
+    sizes-long (c .before .before .before .before .before .before .before .before .args .words .now) _ _ (c .before .before .before .before .wide .ensures)
+    (omega (arith, c .before .before .before .if2 .left)) (c .before .wide2 .ensures) (omega (arith, c .if3 .taken))
 
 add-result : tie.Need-add-result
 add-result c = search needs
@@ -33,7 +35,9 @@ add-result-2 : tie.Need-add-result-2
 add-result-2 c = search needs
 
 returns-4 : tie.Need-returns-4
-returns-4 c = sizes-room (c .before .before .before .before .before .before .before .before .args .words .now) _ _ (c .before .before .before .before .wide .ensures) (omega (arith, c .before .before .before .if2 .left)) (c .before .wide2 .ensures) (omega (arith, c .if3 .left))
+returns-4 c =
+    sizes-room (c .before .before .before .before .before .before .before .before .args .words .now) _ _ (c .before .before .before .before .wide .ensures)
+    (omega (arith, c .before .before .before .if2 .left)) (c .before .wide2 .ensures) (omega (arith, c .if3 .left))
 
 pub sizes-fit-spec : {M : Type 1} → statement M
 sizes-fit-spec =

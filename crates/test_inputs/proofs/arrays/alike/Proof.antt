@@ -1,6 +1,5 @@
 -- `alike` is safe and ends.
-use Prim.Native.Nat.{_≤_, _-_}
-use borrow.Author.Needs.{needs}
+use Rattle.lists.proofs.Prelude.{_-_, _≤_, needs}
 use Rattle.test_inputs.proofs.arrays.alike.Statement.{statement}
 use Rattle.test_inputs.proofs.arrays.alike.Tie as tie
 

@@ -1,6 +1,5 @@
 -- `alike_values` is safe and ends.
-use Prim.Native.Nat.{_≤_, _-_}
-use borrow.Author.Needs.{needs}
+use Rattle.lists.proofs.Prelude.{_-_, _≤_, needs}
 use Rattle.test_inputs.proofs.arrays.alike_values.Statement.{statement}
 use Rattle.test_inputs.proofs.arrays.alike_values.Tie as tie
 

@@ -1,7 +1,5 @@
 -- `held_until` is safe and ends.
-use lib.ListN.{length}
-use Prim.Native.Nat.{_≤_, _-_}
-use borrow.Author.Needs.{needs}
+use Rattle.lists.proofs.Prelude.{_-_, _≤_, length, needs}
 use Rattle.test_inputs.proofs.arrays.held_until.Statement.{statement}
 use Rattle.test_inputs.proofs.arrays.held_until.Tie as tie
 

@@ -1,9 +1,5 @@
 -- `copy` is safe and ends.
-use mathlib.Core.Path.{_≡_}
-use lib.ListN.{length}
-use Prim.Native.Nat.{_≤_, _-_}
-use native.Mathlib.Omega.{arith}
-use borrow.Author.Needs.{needs}
+use Rattle.lists.proofs.Prelude.{_≡_, _-_, _≤_, length, arith, needs}
 use Rattle.test_inputs.proofs.texts.copy.Statement.{statement}
 use Rattle.test_inputs.proofs.texts.copy.Tie as tie
 

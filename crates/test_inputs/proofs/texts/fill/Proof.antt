@@ -1,8 +1,5 @@
 -- `fill` is safe and ends.
-use mathlib.Core.Path.{_≡_}
-use lib.ListN.{length}
-use Prim.Native.Nat.{_<_, _-_}
-use borrow.Author.Needs.{needs}
+use Rattle.lists.proofs.Prelude.{_≡_, _-_, _<_, length, needs}
 use Rattle.test_inputs.proofs.texts.fill.Statement.{statement}
 use Rattle.test_inputs.proofs.texts.fill.Tie as tie
 

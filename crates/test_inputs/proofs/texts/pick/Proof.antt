@@ -1,8 +1,5 @@
 -- `pick` stays within its most: a remainder is below its divisor.
-use Prim.Native.Nat.{_+_}
-use native.Mathlib.Nat.{mod-lt}
-use native.Mathlib.Omega.{arith}
-use borrow.Author.Needs.{needs}
+use Rattle.lists.proofs.Prelude.{_+_, mod-lt, arith, needs}
 use Rattle.test_inputs.proofs.texts.pick.Statement.{statement}
 use Rattle.test_inputs.proofs.texts.pick.Tie as tie
 

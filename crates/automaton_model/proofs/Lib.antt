@@ -1,0 +1,9 @@
+-- The root of the crate's laws.
+pub mod Before
+pub mod Nodes
+pub mod Children
+pub mod Order
+pub mod Lengths
+pub mod Chains
+pub mod Common
+pub mod Advance

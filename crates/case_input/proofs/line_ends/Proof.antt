@@ -1,0 +1,49 @@
+-- `line_ends` is safe and ends.
+use Rattle.lists.proofs.Prelude.{_-_, _≤_, needs}
+use Rattle.case_input.proofs.line_ends.Statement.{statement}
+use Rattle.case_input.proofs.line_ends.Tie as tie
+
+abbrev Inv-loop : tie.InvT-loop
+Inv-loop s from end count₀ i₀ count i = from ≤ i
+
+abbrev μ-loop : tie.MeasureT-loop
+μ-loop s from end count₀ i₀ count i = end - i
+
+loop-holds : tie.Need-loop-holds Inv-loop μ-loop
+loop-holds c = search needs
+
+returns : tie.Need-returns Inv-loop μ-loop
+returns c = search needs
+
+shared-slice-read-if2 : tie.Need-shared-slice-read-if2 Inv-loop μ-loop
+shared-slice-read-if2 c = search needs
+
+wrapping-add-usize-requires : tie.Need-wrapping-add-usize-requires Inv-loop μ-loop
+wrapping-add-usize-requires c κs = search needs
+
+add-i : tie.Need-add-i Inv-loop μ-loop
+add-i c = search needs
+
+loop-less : tie.Need-loop-less Inv-loop μ-loop
+loop-less c = search needs
+
+loop-again : tie.Need-loop-again Inv-loop μ-loop
+loop-again c = search needs
+
+returns-2 : tie.Need-returns-2 Inv-loop μ-loop
+returns-2 c = search needs
+
+pub line-ends-spec : {M : Type 1} → statement M
+line-ends-spec =
+    tie.close
+    (tie.spec
+    Inv-loop
+    μ-loop
+    loop-holds
+    returns
+    shared-slice-read-if2
+    wrapping-add-usize-requires
+    add-i
+    loop-less
+    loop-again
+    returns-2)

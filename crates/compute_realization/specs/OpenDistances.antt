@@ -1,0 +1,12 @@
+-- What is open before a place of a list of distances, where the walk of `realizable` comes by.
+use Rattle.lists.specs.Prelude.{_≡_, true, List, [], ℕ, zero, suc, _<_, getD}
+use Rattle.realization.specs.Realization.{leads, opened}
+
+-- how far back each place is that is open after the first i distances, nearest first
+unfoldable pub openDistances : List ℕ → ℕ → List ℕ
+openDistances ds zero = []
+openDistances ds (suc i) = opened (getD ds i 0) (openDistances ds i)
+
+-- each of the first i distances leads to an open place, or is 0
+abbrev pub Led : List ℕ → ℕ → Type 0
+Led ds i = (j : ℕ) → j < i → leads (getD ds j 0) (openDistances ds j) ≡ true

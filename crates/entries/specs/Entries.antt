@@ -1,0 +1,137 @@
+-- The entries: when each refuses, what it counts and what it writes.
+use Rattle.lists.specs.Prelude.{Bool, cond, not, _&&_, _||_, List, [], _∷_, _++_, flatten, ℕ, zero, suc, _+_, _*_, eqb, leb, ltb, ℤ, length, drop, begins}
+use Rattle.cartesian.specs.Cartesian.{distances}
+use Rattle.realization.specs.Realization.{realizable}
+use Rattle.ranking.specs.Rank.{rank, unrank, isRank}
+use Rattle.pattern_set.specs.PatternSet.{setWords, isSet, patternsOf}
+use Rattle.matching.specs.Matching.{hits, hitWords, candidates}
+use Rattle.automaton_model.specs.Automaton.{nodes, automatonWords}
+use Rattle.answers.specs.declared.SearchState.{SearchState}
+use Rattle.search_model.specs.Search.{goodState, Called, call}
+
+-- ---- What entries have in common. Document 01: Of the conditions that concern a call, the first
+-- met gives its number.
+-- Counts are then 0, lent arrays keep every word.
+
+-- the conditions under which an entry refuses, each with its number, in the order in which they
+-- concern a call
+abbrev pub Conditions : Type 0
+Conditions = List (ℕ × Bool)
+
+-- an entry: the conditions under which it refuses, each with its number; what it counts; what it
+-- writes to the front of the lent array
+pub record Entry (C A : Type 0) : Type 0 where
+  pub conditions : Conditions
+  pub counts : C
+  pub result : List A
+
+-- the number of the first condition met; 0 where none is
+abbrev pub firstMet : Conditions → ℕ
+firstMet [] = 0
+firstMet (c ∷ cs) = cond (c .1) (c .0) (firstMet cs)
+
+-- by the number of a refusal: `done` where the call is accepted, `kept` where it is refused
+abbrev pub unless : {A : Type 0} → ℕ → A → A → A
+unless zero done kept = done
+unless (suc r) done kept = kept
+
+-- what the call tells: refusal and counts; `none` are those of a refused one
+abbrev pub told : {C A : Type 0} → C → Entry C A → ℕ × C
+told none e = (firstMet (e .conditions), unless (firstMet (e .conditions)) (e .counts) none)
+
+-- the lent array after the call
+abbrev pub after : {C A : Type 0} → Entry C A → List A → List A
+after e array = unless (firstMet (e .conditions)) (e .result ++ drop (length (e .result)) array) array
+
+-- ---- The entries on one pattern.
+
+-- distances of values
+abbrev pub distancesEntry : List ℤ → List ℕ → Entry ℕ ℕ
+distancesEntry xs out =
+    let cs : Conditions = (1, eqb (length xs) 0) ∷ (2, ltb 256 (length xs)) ∷ (10, ltb (length out) (length xs)) ∷ [] in
+    record { conditions = cs; counts = length xs; result = distances xs }
+
+-- a list of distances, of which something as long goes into an array of the given room
+abbrev pub listConditions : List ℕ → ℕ → Conditions
+listConditions ds room = (1, eqb (length ds) 0) ∷ (2, ltb 256 (length ds)) ∷ (4, not (realizable ds)) ∷ (10, ltb room (length ds)) ∷ []
+
+-- least realization, global parents or failure lengths of a list of distances
+abbrev pub listEntry : {A : Type 0} → (List ℕ → List A) → List ℕ → List A → Entry ℕ A
+listEntry make ds out = record { conditions = listConditions ds (length out); counts = length ds; result = make ds }
+
+-- code of a list of distances
+abbrev pub encodeEntry : List ℕ → Entry ℕ ℕ
+encodeEntry ds =
+    let cs : Conditions = (1, eqb (length ds) 0) ∷ (2, ltb 256 (length ds)) ∷ (3, ltb 20 (length ds)) ∷ (4, not (realizable ds)) ∷ [] in
+    record { conditions = cs; counts = rank ds; result = [] }
+
+-- distances of a length and a code
+abbrev pub decodeEntry : ℕ → ℕ → List ℕ → Entry ℕ ℕ
+decodeEntry n code out =
+    record { conditions = (1, eqb n 0) ∷ (3, ltb 20 n) ∷ (4, not (isRank n code)) ∷ (10, ltb (length out) n) ∷ []; counts = n; result = unrank n code }
+
+-- ---- The entries on sets of patterns.
+
+-- it is a set array, and may not be searched: it holds no pattern
+abbrev pub isUnsearchable : List ℕ → Bool
+isUnsearchable ws = isSet ws && eqb (length (patternsOf ws)) 0
+
+-- the empty set
+abbrev pub emptySetEntry : List ℕ → Entry ℕ ℕ
+emptySetEntry out = record { conditions = (10, ltb (length out) 3) ∷ []; counts = 3; result = setWords [] }
+
+-- check of a set array: patterns and distances
+abbrev pub checkEntry : List ℕ → Entry (ℕ × ℕ) ℕ
+checkEntry ws =
+    record { conditions = (5, not (isSet ws)) ∷ []; counts = (length (patternsOf ws), length (flatten (patternsOf ws))); result = [] }
+
+-- adding a pattern, given as values: it becomes the last one
+abbrev pub addEntry : List ℕ → List ℤ → Entry (ℕ × ℕ) ℕ
+addEntry ws xs =
+    let ps = patternsOf ws in
+    let n = length (flatten ps) + length xs in
+    let cs : Conditions = (1, eqb (length xs) 0) ∷ (2, ltb 256 (length xs)) ∷ (5, not (isSet ws))
+    ∷ (6, leb 64 (length ps) || ltb 4096 n) ∷ (10, ltb (length ws) (4 + length ps + n)) ∷ [] in
+    record { conditions = cs; counts = (length ps + 1, n); result = setWords (ps ++ (distances xs ∷ [])) }
+
+-- ---- Building the automaton, the stream search and the filter search.
+
+-- building the automaton of the set in the array ws: nodes and words
+abbrev pub buildEntry : List ℕ → List ℕ → Entry (ℕ × ℕ) ℕ
+buildEntry ws out =
+    let ps = patternsOf ws in
+    let cs : Conditions = (1, isUnsearchable ws) ∷ (5, not (isSet ws)) ∷ (10, ltb (length out) (16 * (1 + length (flatten ps)))) ∷ [] in
+    record { conditions = cs; counts = (length (nodes ps), length (automatonWords ps)); result = automatonWords ps }
+
+-- ---- a call of the stream search: set, automaton, state, values and hit array
+
+-- 1 for ended and 0 for full; values taken, hits and attempts
+abbrev pub Counts : Type 0
+Counts = ℕ × ℕ × ℕ × ℕ
+
+-- a call under these conditions that does this where it is accepted
+abbrev pub calledEntry : {S : Type 0} → Conditions → Called S → Entry Counts ℕ
+calledEntry cs c = record { conditions = cs; counts = (c .ended, c .taken, length (c .hits), c .attempts); result = hitWords (c .hits) }
+
+unfoldable pub streamConditions : List ℕ → List ℕ → SearchState → List ℤ → List ℕ → Conditions
+streamConditions ws automaton st xs out =
+    let ps = patternsOf ws in
+    (1, isUnsearchable ws) ∷ (5, not (isSet ws)) ∷ (7, not (begins automaton (automatonWords ps))) ∷ (8, not (goodState ps st))
+    ∷ (9, ltb 1048576 (st .taken + length xs)) ∷ (10, ltb (length out) (2 * length ps)) ∷ []
+
+abbrev pub streamEntry : List ℕ → List ℕ → SearchState → List ℤ → List ℕ → Entry Counts ℕ
+streamEntry ws automaton st xs out = calledEntry (streamConditions ws automaton st xs out) (call (patternsOf ws) st (length out) xs)
+
+-- the state handed back
+abbrev pub streamState : List ℕ → List ℕ → SearchState → List ℤ → List ℕ → SearchState
+streamState ws automaton st xs out = unless (firstMet (streamConditions ws automaton st xs out)) (call (patternsOf ws) st (length out) xs .state) st
+
+-- ---- a filter search: set, text and hit array
+
+-- hits and candidates
+abbrev pub filterEntry : List ℕ → List ℤ → List ℕ → Entry (ℕ × ℕ) ℕ
+filterEntry ws text out =
+    let ps = patternsOf ws in
+    let hs = hits ps text in
+    let cs : Conditions = (1, isUnsearchable ws) ∷ (5, not (isSet ws)) ∷ (9, ltb 1048576 (length text)) ∷ (11, ltb (length out) (2 * length hs)) ∷ [] in
+    record { conditions = cs; counts = (length hs, candidates ps text); result = hitWords hs }

@@ -1,0 +1,6 @@
+-- The root of the crate's laws.
+pub mod Places
+pub mod Lists
+pub mod MarkedBlocks
+pub mod Scan
+pub mod Written

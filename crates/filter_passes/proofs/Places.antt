@@ -1,0 +1,154 @@
+-- THE PATTERNS OF A PLACE, BY RANK: the members of a set of ranks, in their order, are the patterns
+-- that pass its test in the order of the hits; so they are the place's hits, and as many as its
+-- candidates. A place without candidates has no hit.
+use Rattle.lists.proofs.Prelude.{_≡_, _∙_, ap, sym, refl, subst, Bool, true, List, [], map, flatten, ℕ, suc, _+_, _/_, _≤_, _<_, ℤ, T, ltb, length, getD, take}
+use Rattle.lists.proofs.Prelude.{length-append, length-map, decLt, arith, lt-ltb, ltb-true, tabulate, select}
+use Rattle.lists.proofs.Tests.{and-split, and-join, T-true, true-T}
+use Rattle.lists.proofs.Rows.{flatten-tabulate}
+use Rattle.lists.proofs.Members.{getD-mem, mem-getD, map-ext, map-map}
+use Rattle.lists.proofs.Select.{select-empty}
+use Rattle.lists.proofs.Counting.{length-howMany, howMany-le, howMany-all}
+use Rattle.bit_sets.specs.BitSets.{bitAt, bits}
+use Rattle.bit_sets.proofs.Laws.{mem-bits}
+use Rattle.bit_sets.proofs.Digits.{bitAt-none}
+use Rattle.pattern_set.specs.PatternSet.{PatternSet, goodSet}
+use Rattle.pattern_set.proofs.Good.{goodSet-parts}
+use Rattle.matching.specs.Matching.{lastHits, hitsAt, shortest, isCandidate, candidates}
+use Rattle.filter_plan.specs.Plan.{hitOrder, isHit}
+use Rattle.filter_plan.proofs.HitOrder.{good-number, hitOrder-lt, length-hitOrder, lastHits-order}
+use Rattle.filter_plan.proofs.Checks.{shortest-own, hit-candidate}
+use Rattle.filter_plan.proofs.Candidates.{candidates-order}
+use Rattle.filter_tables.specs.Tables.{ranked, Ranks}
+use Rattle.filter_tables.proofs.Lookup.{bits-ranks, ranks-order}
+use Rattle.filter_windows.specs.Looks.{SetOf}
+use Rattle.filter_passes.specs.Passes.{isMarked, HitsMarked, MarkedIf, candidatesBelow}
+
+-- ---- ranks
+
+-- the members of a set by rank are the patterns that pass, in the order of the hits
+rank-select : (ps : PatternSet) (test : List ℕ → Bool) (set : ℕ) → T (goodSet ps) → SetOf ps test set
+    → select (λ j. test (getD ps j [])) (hitOrder ps) ≡ map (λ r. getD (hitOrder ps) r 0) (bits set)
+rank-select ps test set g s = sym (ap (map (λ r. getD (hitOrder ps) r 0)) (bits-ranks ps set test (goodSet-parts ps g .0) s) ∙ ranks-order ps test g)
+
+-- ---- candidates
+
+candidates-size : (ps : PatternSet) (b : ℕ) (text : List ℤ) (set : ℕ) → T (goodSet ps) → SetOf ps (isCandidate b text) set
+    → length (bits set) ≡ length (select (isCandidate b text) ps)
+candidates-size ps b text set g s =
+    sym (length-map (bits set) (λ r. getD (hitOrder ps) r 0))
+    ∙ sym (ap length (rank-select ps (isCandidate b text) set g s))
+    ∙ sym (candidates-order b ps text g)
+
+-- one place more
+pub candidates-next : (ps : PatternSet) (text : List ℤ) (p set : ℕ) → T (goodSet ps)
+    → SetOf ps (isCandidate (shortest 17 ps) (take (suc p) text)) set
+    → candidatesBelow ps text (suc p) ≡ candidatesBelow ps text p + length (bits set)
+candidates-next ps text p set g s =
+    let f : ℕ → List (List ℕ) = λ q. select (isCandidate (shortest 17 ps) (take (suc q) text)) ps in
+    ap length (flatten-tabulate p f)
+    ∙ length-append (flatten (tabulate p f)) (f p)
+    ∙ ap (λ (n : ℕ). candidatesBelow ps text p + n) (sym (candidates-size ps (shortest 17 ps) (take (suc p) text) set g s))
+
+pub candidates-none : (ps : PatternSet) (text : List ℤ) → 0 ≡ candidatesBelow ps text 0
+unfolding flatten tabulate
+candidates-none ps text = refl
+
+pub candidates-all : (ps : PatternSet) (text : List ℤ) (n : ℕ) → n ≡ length text → candidatesBelow ps text n ≡ candidates ps text
+unfolding candidates
+candidates-all ps text n e = rw e refl
+
+-- where there is no candidate, no pattern has a hit
+no-hit : (ps : PatternSet) (text : List ℤ) (r : ℕ) → T (goodSet ps) → SetOf ps (isCandidate (shortest 17 ps) text) 0 → r < length ps
+    → T (isHit text (ranked ps r)) → ⊥
+no-hit ps text r g s h t =
+    let j = getD (hitOrder ps) r 0 in
+    let l = hitOrder-lt ps r (omega (arith, length-hitOrder ps g)) in
+    let own = shortest-own ps (ranked ps r) (getD-mem ps j [] l) in
+    let c = hit-candidate (shortest 17 ps) text (ranked ps r) (omega (arith, own)) (good-number ps j g l .2) t in
+    subst T (sym (s r (omega (arith, goodSet-parts ps g .0))) ∙ bitAt-none r)
+    (and-join (ltb r (length ps)) (isCandidate (shortest 17 ps) text (ranked ps r)) (T-true (ltb r (length ps)) (lt-ltb r (length ps) h)) c)
+
+-- ---- marks
+
+module _ (ps : PatternSet) (text : List ℤ) (marks : List ℕ) (p : ℕ) (good : T (goodSet ps)) (before : HitsMarked ps text marks p) where
+  -- a place without candidates
+  pub marks-pass : SetOf ps (isCandidate (shortest 17 ps) (take (suc p) text)) 0 → HitsMarked ps text marks (p + 1)
+  marks-pass s q h r k t = go (decLt q p)
+    where
+      go : Dec (q < p) → T (isMarked marks (q / 64))
+      go (yes l) = before q l r k t
+      go (no f) =
+          let e : q ≡ p = omega arith in absurd (no-hit ps (take (suc p) text) r good s k (subst (λ (n : ℕ). T (isHit (take (suc n) text) (ranked ps r))) e t))
+
+  -- a place of a block that is marked
+  pub marks-stay : T (isMarked marks (p / 64)) → HitsMarked ps text marks (p + 1)
+  marks-stay m q h r k t = go (decLt q p)
+    where
+      go : Dec (q < p) → T (isMarked marks (q / 64))
+      go (yes l) = before q l r k t
+      go (no f) = let e : q ≡ p = omega arith in rw e m
+
+  -- a place that was looked at
+  pub marks-next : (after : List ℕ) (found : ℕ) → SetOf ps (isHit (take (suc p) text)) found → MarkedIf marks after p found → HitsMarked ps text after (p + 1)
+  marks-next after found s m q h r k t = go (decLt q p)
+    where
+      go : Dec (q < p) → T (isMarked after (q / 64))
+      go (yes l) = m .noneLost (q / 64) (before q l r k t)
+      go (no f) =
+          let e : q ≡ p = omega arith in
+          let l : r < 64 = omega (arith, goodSet-parts ps good .0) in
+          rw e
+          (m .marked r l
+          (subst T (sym (s r l))
+          (and-join (ltb r (length ps)) (isHit (take (suc p) text) (ranked ps r)) (T-true (ltb r (length ps)) (lt-ltb r (length ps) k))
+          (subst (λ (n : ℕ). T (isHit (take (suc n) text) (ranked ps r))) e t))))
+
+-- ---- hits
+
+-- the hits of a place, from the set of their ranks
+pub hits-by-rank : (ps : PatternSet) (text : List ℤ) (p : ℕ) (numbers : List ℕ) (found : ℕ) → T (goodSet ps) → Ranks ps numbers
+    → SetOf ps (isHit (take (suc p) text)) found → map (λ r. (p, getD numbers r 0)) (bits found) ≡ hitsAt ps text p
+unfolding hitsAt
+hits-by-rank ps text p numbers found g n s =
+    let t = take (suc p) text in
+    sym (ap (map (λ j. (p, j))) (lastHits-order ps t g ∙ rank-select ps (isHit t) found g s)
+    ∙ map-map (λ r. getD (hitOrder ps) r 0) (λ j. (p, j)) (bits found)
+    ∙ map-ext (λ r. (p, getD (hitOrder ps) r 0)) (λ r. (p, getD numbers r 0)) (bits found)
+    (λ r m. ap (λ (j : ℕ). (p, j)) (sym (n r (below r (mem-bits found r .0 m))))))
+  where
+    below : (r : ℕ) → (r < 64) × T (bitAt found r) → r < length ps
+    below r b =
+        ltb-true r (length ps)
+        (true-T (ltb r (length ps)) (and-split (ltb r (length ps)) (isHit (take (suc p) text) (ranked ps r)) (subst T (s r (b .0)) (b .1)) .0))
+
+pub hits-size : (ps : PatternSet) (text : List ℤ) (p : ℕ) (numbers : List ℕ) (found : ℕ) → T (goodSet ps) → Ranks ps numbers
+    → SetOf ps (isHit (take (suc p) text)) found → length (bits found) ≡ length (hitsAt ps text p)
+hits-size ps text p numbers found g n s =
+    sym (length-map {B = ℕ × ℕ} (bits found) (λ r. (p, getD numbers r 0))) ∙ ap length (hits-by-rank ps text p numbers found g n s)
+
+-- no place has more hits than there are patterns
+pub hitsAt-count : (ps : PatternSet) (text : List ℤ) (p : ℕ) → T (goodSet ps) → length (hitsAt ps text p) ≤ length ps
+unfolding hitsAt
+hitsAt-count ps text p g =
+    let t = take (suc p) text in
+    rw (length-map {B = ℕ × ℕ} (lastHits ps t) (λ j. (p, j)), lastHits-order ps t g, length-howMany (λ j. isHit t (getD ps j [])) (hitOrder ps))
+    (omega (arith, howMany-le (λ j. isHit t (getD ps j [])) (λ x. true) (hitOrder ps) (λ a k u. tt), howMany-all (hitOrder ps), length-hitOrder ps g))
+
+pub hitsAt-le : (ps : PatternSet) (text : List ℤ) (p : ℕ) → T (goodSet ps) → length (hitsAt ps text p) ≤ 64
+hitsAt-le ps text p g = omega (arith, hitsAt-count ps text p g, goodSet-parts ps g .0)
+
+-- a place at which no pattern by rank has a hit has none
+pub none-hit : (ps : PatternSet) (text : List ℤ) (p : ℕ) → T (goodSet ps)
+    → ((r : ℕ) → r < length ps → T (isHit (take (suc p) text) (ranked ps r)) → ⊥) → hitsAt ps text p ≡ []
+unfolding hitsAt
+none-hit ps text p g none =
+    let t = take (suc p) text in
+    ap (map (λ j. (p, j))) (lastHits-order ps t g ∙ select-empty (λ j. isHit t (getD ps j [])) (hitOrder ps)
+    (λ j m h. let w = mem-getD (hitOrder ps) j 0 m in
+    let k : w .0 < length ps = omega (arith, w .1, length-hitOrder ps g) in
+    none (w .0) k (subst (λ (i : ℕ). T (isHit t (getD ps i []))) (sym (w .2)) h)))
+
+-- so has one without candidates
+pub no-candidate-hit : (ps : PatternSet) (text : List ℤ) (p : ℕ) → T (goodSet ps) → SetOf ps (isCandidate (shortest 17 ps) (take (suc p) text)) 0
+    → hitsAt ps text p ≡ []
+no-candidate-hit ps text p g s = none-hit ps text p g (λ r k t. no-hit ps (take (suc p) text) r g s k t)

@@ -1,0 +1,133 @@
+// The first pass over the text: it counts the candidates, and marks the blocks of 64 places with a
+// hit.
+ghost use Rattle.lists.specs.Prelude.{_≡_, suc, _+_, _≤_, _<_, length, take};
+ghost use Rattle.pattern_set.specs.PatternSet.{patternsOf, IsSet};
+ghost use Rattle.matching.specs.Matching.{candidates};
+ghost use Rattle.filter_plan.specs.Plan.{textFingerprint};
+ghost use Rattle.filter_windows.specs.Looks.{SetTables, HitTables};
+ghost use Rattle.filter_passes.specs.Passes.{HitsMarked};
+use crate::marks::is_marked;
+use crate::marks::mark_if;
+
+// Looks at place p: marks its block if a pattern has a hit there. A block that is marked needs no
+// look.
+fn look_at(
+    set: &[u32],
+    text: &[i32],
+    p: usize,
+    own: u32,
+    ownlow: &[u64; 256],
+    ownhigh: &[u64; 256],
+    fits: &[u64; 256],
+    numbers: &[u32; 64],
+    parents: &[u32],
+    marks: &mut [u64; 256],
+)
+    requires { ⌜ IsSet (now set) ⌝ }
+    requires { ⌜ (p < length (now text)) × (length (now text) ≤ 1048576) × (own ≡ textFingerprint 17 (take (suc p) (now text))) ⌝ }
+    requires { ⌜ HitTables (patternsOf (now set)) (now ownlow) (now ownhigh) (now fits) (now numbers) (now parents) ⌝ }
+    requires { ⌜ HitsMarked (patternsOf (now set)) (now text) (now marks) p × (length (now marks) ≡ 256) ⌝ }
+    ensures { λ _. ⌜ HitsMarked (patternsOf (now (set .entry))) (now (text .entry)) (now (marks .exit)) (p + 1) × (length (now (marks .exit)) ≡ 256) ⌝ }
+{
+    if !is_marked(marks, p / 64) {
+        let found = filter_windows::hits_at(
+            set,
+            text,
+            p,
+            own,
+            ownlow,
+            ownhigh,
+            fits,
+            numbers,
+            parents,
+        );
+        mark_if(marks, p, found);
+    }
+}
+
+// The candidates of the text. A pattern with a hit is a candidate, so a place without candidates is
+// passed by.
+fn count_candidates(
+    set: &[u32],
+    text: &[i32],
+    setlow: &[u64; 256],
+    sethigh: &[u64; 256],
+    ownlow: &[u64; 256],
+    ownhigh: &[u64; 256],
+    fits: &[u64; 256],
+    numbers: &[u32; 64],
+    parents: &[u32],
+    marks: &mut [u64; 256],
+) -> usize
+    requires { ⌜ IsSet (now set) ⌝ }
+    requires { ⌜ (length (now text) ≤ 1048576) × (length (now marks) ≡ 256) ⌝ }
+    requires { ⌜ SetTables (patternsOf (now set)) (now setlow) (now sethigh) (now fits) ⌝ }
+    requires { ⌜ HitTables (patternsOf (now set)) (now ownlow) (now ownhigh) (now fits) (now numbers) (now parents) ⌝ }
+    ensures { λ r. ⌜ r ≡ candidates (patternsOf (now (set .entry))) (now (text .entry)) ⌝ }
+    ensures { λ r. ⌜ r ≤ 67108864 ⌝ }
+    ensures { λ _. ⌜ HitsMarked (patternsOf (now (set .entry))) (now (text .entry)) (now (marks .exit)) (length (now (text .entry))) ⌝ }
+{
+    let b = filter_tables::shortest_length(set);
+    let n = text.len();
+    let mut own = 0;
+    let mut count = 0;
+    let mut p = 0;
+    while p < n {
+        own = filter_windows::own_next(text, p, own);
+        let here = filter_windows::candidates_at(setlow, sethigh, fits, own, b, p);
+        if here != 0 {
+            count += bit_sets::size(here);
+            look_at(
+                set,
+                text,
+                p,
+                own,
+                ownlow,
+                ownhigh,
+                fits,
+                numbers,
+                parents,
+                marks,
+            );
+        }
+        p += 1;
+    }
+    count
+}
+
+// The first pass, for which the tables of the set fingerprint are filled: the candidates of the
+// text.
+pub fn first_pass(
+    set: &[u32],
+    text: &[i32],
+    numbers: &[u32; 64],
+    ownlow: &[u64; 256],
+    ownhigh: &[u64; 256],
+    fits: &[u64; 256],
+    parents: &[u32],
+    marks: &mut [u64; 256],
+) -> usize
+    requires { ⌜ IsSet (now set) ⌝ }
+    requires { ⌜ (length (now text) ≤ 1048576) × (length (now marks) ≡ 256) ⌝ }
+    requires { ⌜ HitTables (patternsOf (now set)) (now ownlow) (now ownhigh) (now fits) (now numbers) (now parents) ⌝ }
+    ensures { λ r. ⌜ r ≡ candidates (patternsOf (now (set .entry))) (now (text .entry)) ⌝ }
+    ensures { λ r. ⌜ r ≤ 67108864 ⌝ }
+    ensures { λ _. ⌜ HitsMarked (patternsOf (now (set .entry))) (now (text .entry)) (now (marks .exit)) (length (now (text .entry))) ⌝ }
+{
+    let mut setlow = [0u64; 256];
+    let mut sethigh = [0u64; 256];
+    let b = filter_tables::shortest_length(set);
+    filter_tables::fill_set_tables(set, numbers, b, &mut setlow, &mut sethigh);
+    count_candidates(
+        set,
+        text,
+        &setlow,
+        &sethigh,
+        ownlow,
+        ownhigh,
+        fits,
+        numbers,
+        parents,
+        marks,
+    )
+}

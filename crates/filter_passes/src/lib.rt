@@ -1,0 +1,7 @@
+// The passes of a filter search over a text, by tables that are filled: one pass that counts the
+// candidates and writes the hits, or two, of which the first counts the candidates and marks the
+// blocks of places that have hits, and the second counts or writes the hits.
+pub mod counting;
+pub mod listing;
+mod marks;
+pub mod single;

@@ -1,0 +1,5 @@
+-- The root of the crate's laws.
+pub mod Ring
+pub mod Minima
+pub mod Good
+pub mod Push
