@@ -2,8 +2,12 @@
 """Runs the program `hits` on many inputs and compares what it prints with what hits_inputs.py expects.
 
 usage: hits.py target/bin/hits
+
+Among the inputs are the examples of docs/HITS.md, whose output must be the one on the page.
 """
+import pathlib
 import random
+import re
 import subprocess
 import sys
 import time
@@ -71,6 +75,18 @@ def pipe_cases():
         case("an input in parts", data, None, part)
 
 
+def page_cases():
+    """The examples of docs/HITS.md: a command that makes an input, and below it what is printed."""
+    page = (pathlib.Path(__file__).resolve().parent.parent / "docs" / "HITS.md").read_text()
+    examples = re.findall(r"^    \$ (.*) \| target/bin/hits\n((?:    [^$\n].*\n)+)", page, re.M)
+    if len(examples) != 3:
+        sys.exit("FAILED: docs/HITS.md has %d examples, expected 3" % len(examples))
+    for command, lines in examples:
+        data = subprocess.run(["sh", "-c", command], stdout=subprocess.PIPE, check=True).stdout
+        case("an example of docs/HITS.md", data, re.sub(r"^    ", "", lines, flags=re.M).encode())
+
+
+page_cases()
 hits_inputs.form_cases(case)
 hits_inputs.number_cases(case)
 hits_inputs.size_cases(case)

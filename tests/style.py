@@ -67,7 +67,8 @@ def check_imports(path, lines):
     at = {i for i, _ in uses}
     found = words([line for i, line in enumerate(lines, 1) if i not in at], path)
     for i, m in uses:
-        for name in m.group(2).split(","):
+        # a group within a group brings in what it names: A.{B.{C}} brings in C
+        for name in re.sub(r"[^\s,{]+\.\{([^{}]*)\}", r"\1", m.group(2)).split(","):
             if not is_used(name.strip(), found):
                 fault(path, i, f"{name.strip()} is imported and not used")
 

@@ -86,8 +86,25 @@ def distances(values):
     return result
 
 
+def check_order(name, line, hit, lines):
+    """Hits rise by last place, then longer shape first, then lower number. `lines` has the hits above, each with its line."""
+    if hit in lines:
+        refuse(name, line, "this hit stands twice, first in line %d" % lines[hit])
+    if lines and hit < next(reversed(lines)):
+        order = "hits rise by last place, then longer shape, then lower number"
+        refuse(name, line, "this hit belongs above the one before it: " + order)
+    lines[hit] = line
+
+
+def check_closing(name, line, digits, values):
+    """Each value takes an attempt, and all together at most two a value."""
+    if len(digits) > 9 or not values <= int(digits) <= 2 * values:
+        told = (digits[:30], values, values, 2 * values)
+        refuse(name, line, "%s attempts cannot be: a recording of %d values takes %d to %d" % told)
+
+
 def read_hits(name, shapes, recording):
-    """The hits as pairs of last place and shape number. Each is compared with the two other files."""
+    """The hits as pairs of last place and shape number. What is there is checked, and not that no hit is missing."""
     lines = text_of(name).split("\n")
     if lines[0].startswith("refused") or lines[0] == "bad input":
         refuse(name, 0, "the program hits printed '%s', there is nothing to draw" % lines[0][:30])
@@ -97,7 +114,7 @@ def read_hits(name, shapes, recording):
         refuse(name, len(lines), "the list is cut off: its last line is 'trials' and a number")
     of_shapes = [distances(values) for _, values in shapes]
     of_recording = distances(recording)
-    hits = []
+    hits, line_of = [], {}
     for line, text in enumerate(lines[1:-2], 2):
         if not re.fullmatch(r"[0-9]{1,9} [0-9]{1,9} [0-9]{1,9}", text):
             refuse(name, line, "a hit is three numbers: last place, shape, length")
@@ -107,5 +124,7 @@ def read_hits(name, shapes, recording):
         window = of_recording[last + 1 - length : last + 1]
         if of_shapes[shape] != [d if d <= i else 0 for i, d in enumerate(window)]:
             refuse(name, line, "the window that ends at %d does not have the shape '%s'" % (last, shapes[shape][0]))
+        check_order(name, line, (last, -length, shape), line_of)
         hits.append((last, shape))
+    check_closing(name, len(lines) - 1, lines[-2].split(" ")[1], len(recording))
     return hits

@@ -1,7 +1,6 @@
 -- THE NUMBER OF A REFUSAL: from it the refusal can be read back, and it is not 0. The one place of
 -- the laws that lists the refusals.
-use Rattle.lists.proofs.Prelude.{_≡_, _∙_, ap, sym, refl, Option, none, some, Option·some-injective, Option·none-ne-some, List, [], _∷_, ℕ, zero, suc, _<_}
-use Rattle.lists.proofs.Prelude.{length, getD, List·getD-eq-default, decLt, arith}
+use Rattle.lists.proofs.Prelude.{_≡_, _∙_, ap, sym, refl, Option, none, some, Option·some-injective, List, [], _∷_, ℕ, zero, suc, _<_, getD, arith}
 use Rattle.answers.specs.declared.Refusal.{Refusal}
 use Rattle.answers.specs.Told.{number}
 
@@ -46,14 +45,6 @@ number-positive r = go (number r) (back r)
     go : (n : ℕ) → getD refusals n none ≡ some r → 0 < n
     go zero e = absurd (let z : _≡_ {A = ℕ} 0 1 = cc in let y : ⊥ = omega arith in y)
     go (suc n) e = omega arith
-
--- and there are no more numbers than refusals in the list
-pub number-le : (r : Refusal) → number r < length refusals
-number-le r = go (decLt (number r) (length refusals))
-  where
-    go : Dec (number r < length refusals) → number r < length refusals
-    go (yes h) = h
-    go (no f) = absurd (Option·none-ne-some r (sym (List·getD-eq-default refusals none {n = number r} (omega arith)) ∙ back r))
 
 -- the refusal of a number
 orEmpty : Option Refusal → Refusal

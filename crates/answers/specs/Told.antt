@@ -1,14 +1,8 @@
 -- What each answer tells: document 01's number of the refusal, 0 where there is none, and the
 -- counts, 0 where it is refused.
 use Rattle.lists.specs.Prelude.{ℕ, pos, replicate}
-use Rattle.answers.specs.declared.Refusal.{Refusal}
-use Rattle.answers.specs.declared.Written.{Written}
-use Rattle.answers.specs.declared.Encoded.{Encoded}
-use Rattle.answers.specs.declared.SetSize.{SetSize}
-use Rattle.answers.specs.declared.Built.{Built}
-use Rattle.answers.specs.declared.Filtered.{Filtered}
-use Rattle.answers.specs.declared.StreamAnswer.{StreamAnswer}
-use Rattle.answers.specs.declared.SearchState.{SearchState}
+use Rattle.answers.specs.declared.{Refusal.{Refusal}, Written.{Written}, Encoded.{Encoded}, SetSize.{SetSize}, Built.{Built}, Filtered.{Filtered}}
+use Rattle.answers.specs.declared.{StreamAnswer.{StreamAnswer}, SearchState.{SearchState}}
 
 -- Document 01: When the finder declines
 abbrev pub number : Refusal → ℕ

@@ -1,12 +1,14 @@
 -- The root's child, and THE CHAIN OF A HEAD, with its first head where a pattern ends: as many
 -- failure links as the head has distances are enough.
 
-use Rattle.lists.proofs.Prelude.{_≡_, _∙_, ap, refl, Bool, true, false, cond, List, [], _∷_, List·Memᴰ, List·Memᴰ·head, ℕ, zero, suc, _≤_, _<_, T, eqb, eqb→eq}
-use Rattle.lists.proofs.Prelude.{eqb·suc-zero, length, take, le-refl, arith, begins, any}
+use Rattle.lists.proofs.Prelude.{_≡_, _∙_, ap, refl, subst, Bool, true, false, cond, List, [], _∷_, List·Memᴰ, List·Memᴰ·head, ℕ, zero, suc, _≤_, _<_, T, eqb}
+use Rattle.lists.proofs.Prelude.{eqb→eq, eqb·suc-zero, length, take, le-refl, arith, begins, any}
 use Rattle.lists.proofs.Tests.{T-true}
 use Rattle.lists.proofs.Members.{mem-any}
 use Rattle.lists.proofs.Same.{eq-same}
-use Rattle.realization.specs.Realization.{walk, realizable}
+use Rattle.realization.specs.Realization.{realizable}
+use Rattle.realization.specs.Walk.{walk}
+use Rattle.realization.proofs.Walk.{realizable-walk}
 use Rattle.pattern_set.specs.PatternSet.{PatternSet, goodSet}
 use Rattle.pattern_set.proofs.Good.{good-pattern}
 use Rattle.matching.specs.Matching.{isHead, failure, chainWithin, chain}
@@ -14,11 +16,14 @@ use Rattle.automaton_model.specs.Automaton.{nodes, headOf, nodeOf, endsA
 use Rattle.automaton_model.proofs.Nodes.{head-node, node-head, empty-isHead, failure-isHead, failure-shorter}
 
 -- a realizable list begins with distance 0
+walk-zero : (p : List ℕ) → T (walk [] p) → 0 < length p → take 1 p ≡ 0 ∷ []
+unfolding walk any
+walk-zero [] t h = absurd (let z : ⊥ = omega arith in z)
+walk-zero (zero ∷ p) t h = refl
+walk-zero (suc d ∷ p) t h = absurd t
+
 first-zero : (p : List ℕ) → T (realizable p) → 0 < length p → take 1 p ≡ 0 ∷ []
-unfolding realizable walk any
-first-zero [] t h = absurd (let z : ⊥ = omega arith in z)
-first-zero (zero ∷ p) t h = refl
-first-zero (suc d ∷ p) t h = absurd t
+first-zero p t h = walk-zero p (subst T (realizable-walk p) t) h
 
 pub zero-isHead : (ps : PatternSet) → T (goodSet ps) → 0 < length ps → T (isHead ps (0 ∷ []))
 unfolding isHead

@@ -1,12 +1,13 @@
 // Cases of a test program's input: numbers and arrays read from it, arrays compared with it, and
 // the way from case to case. All numbers are decimal.
-ghost use Rattle.lists.specs.Prelude.{_+_, _≤_, _<_};
+ghost use Rattle.lists.specs.Prelude.{_≡_, cond, _+_, _≤_, _<_, eqb};
+ghost use Rattle.test_differences.specs.Difference.{firstOf};
+ghost use Rattle.test_tally.specs.Tally.{noCases, counted};
 use answers::Written;
-use test_inputs::difference;
-use test_inputs::difference::Difference;
-use test_inputs::expect;
-use test_inputs::tally;
-use test_inputs::tally::Tally;
+use test_differences::difference;
+use test_differences::difference::Difference;
+use test_differences::expect;
+use test_tally::Tally;
 
 // A number of the input, and the place behind it.
 pub struct Token {
@@ -345,7 +346,7 @@ pub fn read_expected(s: &[u8], from: usize) -> Expected
 
 // The outcome of a case in which something else may differ, too, which comes first.
 pub fn after(d: Difference, o: Outcome) -> Outcome
-    ensures { λ r. ⌜ o .at ≤ r .at ⌝ }
+    ensures { λ r. ⌜ (o .at ≤ r .at) × (r .difference ≡ firstOf d (o .difference)) ⌝ }
 {
     let other = o.difference;
     Outcome {
@@ -383,14 +384,14 @@ fn line_ends(s: &[u8], from: usize, end: usize) -> usize {
 
 // How many cases may be run, where the first number of a case is 0 at the end of the input.
 fn still_left(first: u64, left: usize) -> usize
-    ensures { λ r. ⌜ r ≤ left ⌝ }
+    ensures { λ r. ⌜ (r ≤ left) × (r ≡ cond (eqb first 0) 0 left) ⌝ }
 {
     if first == 0 { 0 } else { left }
 }
 
 // The case that begins behind a place, with so many that may be run, on the way from another one.
 fn reach(s: &[u8], before: Reached, from: usize, left: usize, t: Tally) -> Reached
-    ensures { λ r. ⌜ r .left ≤ left ⌝ }
+    ensures { λ r. ⌜ (r .left ≤ left) × (r .left ≡ cond (eqb (r .first) 0) 0 left) × (r .tally ≡ t) ⌝ }
 {
     let begin = skip(s, from);
     let n = number(s, begin);
@@ -405,24 +406,26 @@ fn reach(s: &[u8], before: Reached, from: usize, left: usize, t: Tally) -> Reach
 }
 
 // The first case of an input; at most 100,000 are run.
-pub fn first_case(s: &[u8]) -> Reached {
+pub fn first_case(s: &[u8]) -> Reached
+    ensures { λ r. ⌜ (r .left ≡ cond (eqb (r .first) 0) 0 100000) × (r .tally ≡ noCases) ⌝ }
+{
     let start = Reached {
         at: 0,
         first: 0,
         left: 0,
         line: 1,
-        tally: tally::none(),
+        tally: test_tally::none(),
     };
-    reach(s, start, 0, 100000, tally::none())
+    reach(s, start, 0, 100000, test_tally::none())
 }
 
 // The case behind one that had an outcome, which is counted.
 pub fn next_case(s: &[u8], c: Reached, o: Outcome) -> Reached
     requires { ⌜ 0 < c .left ⌝ }
-    ensures { λ r. ⌜ r .left < c .left ⌝ }
+    ensures { λ r. ⌜ (r .left < c .left) × (r .tally ≡ counted (c .tally) (o .difference)) ⌝ }
 {
     let d = o.difference;
     let before = c.tally;
-    let t = tally::lined(before, c.line, d);
+    let t = test_tally::lined(before, c.line, d);
     reach(s, c, o.at, c.left - 1, t)
 }

@@ -1,11 +1,11 @@
 // Building the automaton of a set, compared with the plain one.
 ghost use Rattle.lists.specs.Prelude.{_≤_};
 use answers::Built;
+use test_differences::difference;
+use test_differences::difference::Difference;
+use test_differences::difference::Part;
+use test_differences::expect;
 use test_inputs::arrays;
-use test_inputs::difference;
-use test_inputs::difference::Difference;
-use test_inputs::difference::Part;
-use test_inputs::expect;
 
 // The nodes of the plain automaton of a set, and what differs from it in the one that is built.
 pub(crate) struct Compared {

@@ -3,10 +3,10 @@ use crate::built;
 use answers::SearchState;
 use answers::StreamAnswer;
 use answers::Streamed;
+use test_differences::difference;
+use test_differences::difference::Difference;
+use test_differences::difference::Part;
 use test_inputs::arrays;
-use test_inputs::difference;
-use test_inputs::difference::Difference;
-use test_inputs::difference::Part;
 
 // The number of the refusal of a call with no values; 0 where it ended with nothing counted, 100
 // where it answers something else.

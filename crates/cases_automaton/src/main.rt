@@ -5,40 +5,39 @@ mod built;
 mod changed;
 mod sets;
 
-use test_inputs::difference::Difference;
-use test_inputs::tally;
-use test_inputs::tally::Tally;
+use test_differences::difference::Difference;
+use test_tally::Tally;
 
 // Random sets of up to 6 patterns of up to 12 values.
 fn random_cases(group: &[u8], n: usize) -> Tally {
-    let mut t = tally::none();
+    let mut t = test_tally::none();
     let mut i: usize = 0;
     while i < n {
-        t = tally::numbered(t, group, i, sets::random_case(i));
+        t = test_tally::numbered(t, group, i, sets::random_case(i));
         i += 1;
     }
-    tally::report(group, t);
+    test_tally::report(group, t);
     t
 }
 
 // Random sets of 4,096 distances, of each kind of text.
 fn full_cases(group: &[u8]) -> Tally {
-    let mut t = tally::none();
+    let mut t = test_tally::none();
     let mut kind: usize = 0;
     while kind < 7 {
-        t = tally::numbered(
+        t = test_tally::numbered(
             t,
             b"64 patterns of 64 values, by kind of text: ",
             kind,
             sets::full_case(64, 64, kind),
         );
-        t = tally::numbered(
+        t = test_tally::numbered(
             t,
             b"16 patterns of 256 values, by kind of text: ",
             kind,
             sets::full_case(16, 256, kind),
         );
-        t = tally::numbered(
+        t = test_tally::numbered(
             t,
             b"one pattern of 256 values, by kind of text: ",
             kind,
@@ -46,27 +45,27 @@ fn full_cases(group: &[u8]) -> Tally {
         );
         kind += 1;
     }
-    tally::report(group, t);
+    test_tally::report(group, t);
     t
 }
 
 // Sets of 64 equal patterns.
 fn equal_cases(group: &[u8]) -> Tally {
-    let a = tally::named(
-        tally::none(),
+    let a = test_tally::named(
+        test_tally::none(),
         b"64 equal patterns of 1 value",
         sets::equal_case(1),
     );
-    let b = tally::named(a, b"64 equal patterns of 4 values", sets::equal_case(4));
-    let c = tally::named(b, b"64 equal patterns of 64 values", sets::equal_case(64));
-    tally::report(group, c);
+    let b = test_tally::named(a, b"64 equal patterns of 4 values", sets::equal_case(4));
+    let c = test_tally::named(b, b"64 equal patterns of 64 values", sets::equal_case(64));
+    test_tally::report(group, c);
     c
 }
 
 // A group of one case.
 fn one_case(group: &[u8], d: Difference) -> Tally {
-    let t = tally::numbered(tally::none(), group, 0, d);
-    tally::report(group, t);
+    let t = test_tally::numbered(test_tally::none(), group, 0, d);
+    test_tally::report(group, t);
     t
 }
 
@@ -77,9 +76,9 @@ fn main() {
     let d = full_cases(b"patterns of 256, and 4,096 distances: ");
     let e = random_cases(b"random sets: ", 400);
     let f = one_case(b"refusals: ", built::refusals());
-    let all = tally::both(
-        tally::both(tally::both(a, b), tally::both(c, d)),
-        tally::both(e, f),
+    let all = test_tally::both(
+        test_tally::both(test_tally::both(a, b), test_tally::both(c, d)),
+        test_tally::both(e, f),
     );
-    tally::report(b"in all ", all);
+    test_tally::report(b"in all ", all);
 }

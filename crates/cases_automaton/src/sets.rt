@@ -2,10 +2,10 @@
 ghost use Rattle.lists.specs.Prelude.{_<_};
 use crate::built;
 use crate::changed;
-use test_inputs::difference;
-use test_inputs::difference::Difference;
-use test_inputs::difference::Part;
-use test_inputs::expect;
+use test_differences::difference;
+use test_differences::difference::Difference;
+use test_differences::difference::Part;
+use test_differences::expect;
 use test_inputs::texts;
 
 // The automaton is expected to have so many nodes, to be the plain one, and to need its last word.

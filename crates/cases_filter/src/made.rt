@@ -1,7 +1,7 @@
 // Cases made from seeds.
 use crate::run;
+use test_differences::difference::Difference;
 use test_inputs::arrays;
-use test_inputs::difference::Difference;
 use test_inputs::texts;
 
 // The search over the first n values of a text is expected to agree with the plain search.

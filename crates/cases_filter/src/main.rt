@@ -7,27 +7,26 @@ mod made;
 mod run;
 mod worked;
 
-use test_inputs::tally;
-use test_inputs::tally::Tally;
+use test_tally::Tally;
 
 // Cases with patterns of up to most + 1 values.
 fn random_cases(group: &[u8], n: usize, most: usize) -> Tally {
-    let mut t = tally::none();
+    let mut t = test_tally::none();
     let mut i: usize = 0;
     while i < n {
-        t = tally::numbered(t, group, i, made::random_case(i, most));
+        t = test_tally::numbered(t, group, i, made::random_case(i, most));
         i += 1;
     }
-    tally::report(group, t);
+    test_tally::report(group, t);
     t
 }
 
 // Cases whose shortest pattern has m values.
 fn shortest_patterns(group: &[u8], n: usize, m: usize) -> Tally {
-    let mut t = tally::none();
+    let mut t = test_tally::none();
     let mut i: usize = 0;
     while i < n {
-        t = tally::numbered(t, group, i, made::length_case(i, m));
+        t = test_tally::numbered(t, group, i, made::length_case(i, m));
         i += 1;
     }
     t
@@ -35,13 +34,13 @@ fn shortest_patterns(group: &[u8], n: usize, m: usize) -> Tally {
 
 // Cases of 64 patterns.
 fn large_sets(group: &[u8], n: usize) -> Tally {
-    let mut t = tally::none();
+    let mut t = test_tally::none();
     let mut i: usize = 0;
     while i < n {
-        t = tally::numbered(t, group, i, made::large_case(i));
+        t = test_tally::numbered(t, group, i, made::large_case(i));
         i += 1;
     }
-    tally::report(group, t);
+    test_tally::report(group, t);
     t
 }
 
@@ -50,7 +49,7 @@ fn all_shortest() -> Tally {
     let b = shortest_patterns(b"shortest of 16 values: ", 300, 16);
     let c = shortest_patterns(b"shortest of 17 values: ", 300, 17);
     let d = shortest_patterns(b"shortest of 18 values: ", 300, 18);
-    tally::both(tally::both(a, b), tally::both(c, d))
+    test_tally::both(test_tally::both(a, b), test_tally::both(c, d))
 }
 
 fn main() {
@@ -58,10 +57,13 @@ fn main() {
     let b = random_cases(b"patterns of 1 to 8 values: ", 10000, 7);
     let c = random_cases(b"patterns of 1 to 40 values: ", 2000, 39);
     let d = all_shortest();
-    tally::report(b"shortest of 1, 16, 17 and 18 values: ", d);
+    test_tally::report(b"shortest of 1, 16, 17 and 18 values: ", d);
     let e = large_sets(b"sets of 64 patterns: ", 50);
-    tally::report(
+    test_tally::report(
         b"in all ",
-        tally::both(tally::both(a, b), tally::both(c, tally::both(d, e))),
+        test_tally::both(
+            test_tally::both(a, b),
+            test_tally::both(c, test_tally::both(d, e)),
+        ),
     );
 }

@@ -1,10 +1,10 @@
 // One case: the search in arrays of three lengths.
 use answers::Filtered;
+use test_differences::difference;
+use test_differences::difference::Difference;
+use test_differences::difference::Part;
+use test_differences::expect;
 use test_inputs::arrays;
-use test_inputs::difference;
-use test_inputs::difference::Difference;
-use test_inputs::difference::Part;
-use test_inputs::expect;
 
 // The search in the first words of an array.
 fn search(set: &[u32], text: &[i32], room: usize, out: &mut [u32]) -> Filtered {

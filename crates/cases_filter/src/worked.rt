@@ -1,12 +1,11 @@
 // Cases of document 01, flat texts, texts shorter than every pattern, and refusals.
 use crate::made;
 use crate::run;
+use test_differences::difference;
+use test_differences::difference::Difference;
+use test_differences::difference::Part;
 use test_inputs::arrays;
-use test_inputs::difference;
-use test_inputs::difference::Difference;
-use test_inputs::difference::Part;
-use test_inputs::tally;
-use test_inputs::tally::Tally;
+use test_tally::Tally;
 
 // The plain search is expected to have one hit, at the last place given; the list is put to an
 // array that is lent.
@@ -70,12 +69,12 @@ fn flat_case(n: usize, a: usize, b: usize) -> Difference {
 }
 
 fn flat_cases(group: &[u8]) -> Tally {
-    let mut t = tally::none();
+    let mut t = test_tally::none();
     let mut n: usize = 0;
     while n < 41 {
         let first = flat_case(n, 5, 1);
         let second = flat_case(n, 30, 21);
-        t = tally::numbered(t, group, n, difference::first(first, second));
+        t = test_tally::numbered(t, group, n, difference::first(first, second));
         n += 1;
     }
     t
@@ -98,13 +97,13 @@ fn refusals() -> Difference {
 }
 
 pub(crate) fn all_cases(group: &[u8]) -> Tally {
-    let t = tally::named(
+    let t = test_tally::named(
         flat_cases(b"flat texts: "),
         b"first starred text",
         starred_case(),
     );
-    let u = tally::named(t, b"second starred text", other_starred_case());
-    let v = tally::named(u, b"refused sets", refusals());
-    tally::report(group, v);
+    let u = test_tally::named(t, b"second starred text", other_starred_case());
+    let v = test_tally::named(u, b"refused sets", refusals());
+    test_tally::report(group, v);
     v
 }

@@ -16,7 +16,6 @@ mod reading;
 mod searching;
 
 use case_input::Outcome;
-use test_inputs::tally;
 
 // The case that starts at a place of the input; the bytes are put to the lent array.
 fn case(s: &[u8], pieces: u64, at: usize, bytes: &mut [u8]) -> Outcome {
@@ -39,7 +38,7 @@ fn run(s: &[u8]) {
         c = case_input::next_case(s, c, case_in(s, c.first, c.at));
     }
     let t = c.tally;
-    tally::report_as(b"", t, b" inputs, ");
+    test_tally::report_as(b"", t, b" inputs, ");
 }
 
 // Runs the cases of standard input.

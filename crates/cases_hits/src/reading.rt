@@ -2,10 +2,10 @@
 use crate::searching;
 use case_input::Outcome;
 use hits_input::Parsed;
+use test_differences::difference;
+use test_differences::difference::Difference;
+use test_differences::difference::Part;
 use test_inputs::arrays;
-use test_inputs::difference;
-use test_inputs::difference::Difference;
-use test_inputs::difference::Part;
 
 // So many patterns and values are expected.
 fn expect_parsed(p: Parsed, patterns: u64, values: u64) -> Difference {

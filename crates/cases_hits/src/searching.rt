@@ -6,10 +6,10 @@ use case_input::Outcome;
 use hits_calls::calls;
 use hits_calls::calls::Step;
 use hits_calls::preparing;
+use test_differences::difference;
+use test_differences::difference::Difference;
+use test_differences::difference::Part;
 use test_inputs::arrays;
-use test_inputs::difference;
-use test_inputs::difference::Difference;
-use test_inputs::difference::Part;
 
 // How many bytes were printed, and what differs in them.
 struct Printed {

@@ -4,12 +4,11 @@
 use answers::Counts;
 use answers::SearchState;
 use answers::Streamed;
+use test_differences::difference;
+use test_differences::difference::Difference;
+use test_differences::difference::Part;
+use test_differences::expect;
 use test_inputs::arrays;
-use test_inputs::difference;
-use test_inputs::difference::Difference;
-use test_inputs::difference::Part;
-use test_inputs::expect;
-use test_inputs::tally;
 
 // A state, and what differed on the way to it.
 struct Reached {
@@ -147,6 +146,10 @@ fn limit_over(text: &[i32]) -> Difference {
 }
 
 fn main() {
-    let t = tally::named(tally::none(), b"1,048,576 values", limit_over(&[-7; 4096]));
-    tally::report(b"1,048,576 values: ", t);
+    let t = test_tally::named(
+        test_tally::none(),
+        b"1,048,576 values",
+        limit_over(&[-7; 4096]),
+    );
+    test_tally::report(b"1,048,576 values: ", t);
 }

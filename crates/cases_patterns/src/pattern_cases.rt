@@ -3,10 +3,10 @@
 use answers::Encoded;
 use answers::Written;
 use case_input::Outcome;
-use test_inputs::difference;
-use test_inputs::difference::Difference;
-use test_inputs::difference::Part;
-use test_inputs::expect;
+use test_differences::difference;
+use test_differences::difference::Difference;
+use test_differences::difference::Part;
+use test_differences::expect;
 
 // The values are read, and their distances are compared.
 fn distances_case(s: &[u8], at: usize, list: &mut [i32], out: &mut [u32]) -> Outcome {

@@ -12,7 +12,6 @@
 mod set_cases;
 
 use case_input::Outcome;
-use test_inputs::tally;
 
 // The case of an entry that starts at a place of the input.
 fn case(s: &[u8], entry: u64, at: usize) -> Outcome {
@@ -36,7 +35,7 @@ fn run(s: &[u8]) {
         c = case_input::next_case(s, c, case(s, c.first, c.at));
     }
     let t = c.tally;
-    tally::report(b"", t);
+    test_tally::report(b"", t);
 }
 
 // Runs the cases of standard input.

@@ -2,7 +2,7 @@
 // lengths already.
 use answers::SetSize;
 use case_input::Outcome;
-use test_inputs::expect;
+use test_differences::expect;
 
 // The words of an empty set are compared.
 fn emptied_case(s: &[u8], at: usize, out: &mut [u32]) -> Outcome {

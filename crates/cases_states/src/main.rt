@@ -6,12 +6,11 @@
 use answers::Counts;
 use answers::SearchState;
 use answers::StreamAnswer;
+use test_differences::difference;
+use test_differences::difference::Difference;
+use test_differences::expect;
 use test_inputs::arrays;
-use test_inputs::difference;
-use test_inputs::difference::Difference;
-use test_inputs::expect;
-use test_inputs::tally;
-use test_inputs::tally::Tally;
+use test_tally::Tally;
 
 // A state whose ring starts at a slot, with these places and values in its first three slots.
 fn state_at(
@@ -97,61 +96,61 @@ fn accepted(s: SearchState) -> Difference {
 }
 
 fn good_states(group: &[u8]) -> Tally {
-    let mut t = tally::none();
-    t = tally::named(t, b"a new search", accepted(SearchState::new()));
-    t = tally::named(
+    let mut t = test_tally::none();
+    t = test_tally::named(t, b"a new search", accepted(SearchState::new()));
+    t = test_tally::named(
         t,
         b"three rising minima",
         accepted(state_at(0, 3, 3, 3, &[0, 1, 2], &[1, 2, 3])),
     );
-    t = tally::named(
+    t = test_tally::named(
         t,
         b"three equal minima over the end of the ring",
         accepted(state_at(255, 3, 0, 3, &[0, 1, 2], &[5, 5, 5])),
     );
-    t = tally::named(
+    t = test_tally::named(
         t,
         b"a minimum as far back as can be",
         accepted(state_at(254, 300, 2, 2, &[44, 299, 0], &[-2147483648, 7, 0])),
     );
-    t = tally::named(
+    t = test_tally::named(
         t,
         b"all values taken",
         accepted(state_at(7, 1048576, 1, 1, &[1048575, 0, 0], &[1, 0, 0])),
     );
-    t = tally::named(
+    t = test_tally::named(
         t,
         b"one value taken",
         accepted(state_at(9, 1, 1, 1, &[0, 0, 0], &[2147483647, 0, 0])),
     );
-    tally::report(group, t);
+    test_tally::report(group, t);
     t
 }
 
 // Falling values; places that do not rise.
 fn disordered(before: Tally) -> Tally {
     let mut t = before;
-    t = tally::named(
+    t = test_tally::named(
         t,
         b"falling values",
         refused(state_at(0, 3, 0, 3, &[0, 1, 2], &[1, 3, 2])),
     );
-    t = tally::named(
+    t = test_tally::named(
         t,
         b"falling values over the end of the ring",
         refused(state_at(255, 3, 0, 3, &[0, 1, 2], &[3, 1, 2])),
     );
-    t = tally::named(
+    t = test_tally::named(
         t,
         b"equal places",
         refused(state_at(0, 3, 0, 3, &[0, 2, 2], &[1, 2, 3])),
     );
-    t = tally::named(
+    t = test_tally::named(
         t,
         b"falling places",
         refused(state_at(254, 3, 0, 3, &[1, 0, 2], &[1, 2, 3])),
     );
-    tally::named(
+    test_tally::named(
         t,
         b"more minima than slots",
         refused(state_at(0, 300, 0, 257, &[299, 299, 299], &[0, 0, 0])),
@@ -162,27 +161,27 @@ fn disordered(before: Tally) -> Tally {
 // taken, and none with something taken.
 fn misplaced(before: Tally) -> Tally {
     let mut t = before;
-    t = tally::named(
+    t = test_tally::named(
         t,
         b"a last place before the last taken",
         refused(state_at(0, 4, 0, 3, &[0, 1, 2], &[1, 2, 3])),
     );
-    t = tally::named(
+    t = test_tally::named(
         t,
         b"a last place behind the last taken",
         refused(state_at(0, 2, 0, 3, &[0, 1, 2], &[1, 2, 3])),
     );
-    t = tally::named(
+    t = test_tally::named(
         t,
         b"a first place too far back",
         refused(state_at(254, 300, 0, 2, &[43, 299, 0], &[1, 7, 0])),
     );
-    t = tally::named(
+    t = test_tally::named(
         t,
         b"a minimum with nothing taken",
         refused(state_at(0, 0, 0, 1, &[0, 0, 0], &[0, 0, 0])),
     );
-    tally::named(
+    test_tally::named(
         t,
         b"no minimum with something taken",
         refused(state_at(0, 3, 0, 0, &[0, 1, 2], &[1, 2, 3])),
@@ -193,32 +192,32 @@ fn misplaced(before: Tally) -> Tally {
 // search takes.
 fn outside(before: Tally) -> Tally {
     let mut t = before;
-    t = tally::named(
+    t = test_tally::named(
         t,
         b"the node behind the last",
         refused(state_at(0, 3, 4, 3, &[0, 1, 2], &[1, 2, 3])),
     );
-    t = tally::named(
+    t = test_tally::named(
         t,
         b"the highest node",
         refused(state_at(0, 3, 4294967295, 3, &[0, 1, 2], &[1, 2, 3])),
     );
-    t = tally::named(
+    t = test_tally::named(
         t,
         b"a node deeper than the values taken",
         refused(state_at(0, 1, 2, 1, &[0, 0, 0], &[1, 0, 0])),
     );
-    t = tally::named(
+    t = test_tally::named(
         t,
         b"a node below the root with nothing taken",
         refused(state_at(0, 0, 1, 0, &[0, 0, 0], &[0, 0, 0])),
     );
-    t = tally::named(
+    t = test_tally::named(
         t,
         b"one value too many taken",
         refused(state_at(0, 1048577, 0, 1, &[1048576, 0, 0], &[1, 0, 0])),
     );
-    tally::named(
+    test_tally::named(
         t,
         b"the most values taken",
         refused(state_at(0, 4294967295, 0, 1, &[4294967294, 0, 0], &[1, 0, 0])),
@@ -226,13 +225,13 @@ fn outside(before: Tally) -> Tally {
 }
 
 fn bad_states(group: &[u8]) -> Tally {
-    let t = outside(misplaced(disordered(tally::none())));
-    tally::report(group, t);
+    let t = outside(misplaced(disordered(test_tally::none())));
+    test_tally::report(group, t);
     t
 }
 
 fn main() {
     let a = good_states(b"accepted: ");
     let b = bad_states(b"refused: ");
-    tally::report(b"in all ", tally::both(a, b));
+    test_tally::report(b"in all ", test_tally::both(a, b));
 }

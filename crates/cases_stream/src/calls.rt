@@ -3,10 +3,10 @@ ghost use Rattle.lists.specs.Prelude.{_<_};
 use answers::Counts;
 use answers::SearchState;
 use answers::Streamed;
+use test_differences::difference;
+use test_differences::difference::Difference;
+use test_differences::expect;
 use test_inputs::arrays;
-use test_inputs::difference;
-use test_inputs::difference::Difference;
-use test_inputs::expect;
 
 // The state that a call hands back, and what differs in all that it answered.
 pub struct Step {

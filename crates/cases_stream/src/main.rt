@@ -5,29 +5,32 @@ mod calls;
 mod refused;
 mod runs;
 
-use test_inputs::tally;
-use test_inputs::tally::Tally;
+use test_tally::Tally;
 
 fn random_cases(group: &[u8], n: usize) -> Tally {
-    let mut t = tally::none();
+    let mut t = test_tally::none();
     let mut i: usize = 0;
     while i < n {
-        t = tally::numbered(t, group, i, runs::random_case(i));
+        t = test_tally::numbered(t, group, i, runs::random_case(i));
         i += 1;
     }
-    tally::report(group, t);
+    test_tally::report(group, t);
     t
 }
 
 fn cut_cases(group: &[u8]) -> Tally {
-    let flat = tally::named(tally::none(), b"600 equal values", runs::cut_case(false));
-    let t = tally::named(flat, b"600 rising values", runs::cut_case(true));
-    tally::report(group, t);
+    let flat = test_tally::named(
+        test_tally::none(),
+        b"600 equal values",
+        runs::cut_case(false),
+    );
+    let t = test_tally::named(flat, b"600 rising values", runs::cut_case(true));
+    test_tally::report(group, t);
     t
 }
 
 fn main() {
     let a = random_cases(b"random runs: ", 1000);
     let b = cut_cases(b"600 values: ");
-    tally::report(b"in all ", tally::both(a, b));
+    test_tally::report(b"in all ", test_tally::both(a, b));
 }

@@ -1,10 +1,10 @@
 // Calls that are refused, between those that are not.
 use crate::calls;
 use answers::SearchState;
+use test_differences::difference;
+use test_differences::difference::Difference;
+use test_differences::difference::Part;
 use test_inputs::arrays;
-use test_inputs::difference;
-use test_inputs::difference::Difference;
-use test_inputs::difference::Part;
 use test_inputs::texts;
 
 // The words that a hit array must have.

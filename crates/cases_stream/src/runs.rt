@@ -3,10 +3,10 @@ ghost use Rattle.lists.specs.Prelude.{_<_};
 use crate::calls;
 use crate::refused;
 use answers::SearchState;
+use test_differences::difference;
+use test_differences::difference::Difference;
+use test_differences::difference::Part;
 use test_inputs::arrays;
-use test_inputs::difference;
-use test_inputs::difference::Difference;
-use test_inputs::difference::Part;
 use test_inputs::texts;
 
 // One call of a run, after refused ones: up to 12 values, and a hit array of at least 2 words for

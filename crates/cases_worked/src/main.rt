@@ -5,10 +5,8 @@
 mod searches;
 mod sets;
 
-use test_inputs::tally;
-
 fn main() {
     let a = sets::all_cases(b"sets: ");
     let b = searches::all_cases(b"searches: ");
-    tally::report(b"in all ", tally::both(a, b));
+    test_tally::report(b"in all ", test_tally::both(a, b));
 }

@@ -3,13 +3,12 @@
 use answers::Counts;
 use answers::SearchState;
 use answers::Streamed;
+use test_differences::difference;
+use test_differences::difference::Difference;
+use test_differences::difference::Part;
+use test_differences::expect;
 use test_inputs::arrays;
-use test_inputs::difference;
-use test_inputs::difference::Difference;
-use test_inputs::difference::Part;
-use test_inputs::expect;
-use test_inputs::tally;
-use test_inputs::tally::Tally;
+use test_tally::Tally;
 
 // Adds a pattern, if it has values.
 fn add(set: &mut [u32], values: &[i32]) {
@@ -142,16 +141,16 @@ fn equal_fingerprints() -> Difference {
 }
 
 fn starred(t: Tally) -> Tally {
-    let u = tally::named(t, b"first starred text", first_starred());
-    tally::named(u, b"second starred text", second_starred())
+    let u = test_tally::named(t, b"first starred text", first_starred());
+    test_tally::named(u, b"second starred text", second_starred())
 }
 
 fn parting(t: Tally) -> Tally {
-    let a = tally::named(t, b"equal values", equal_values());
-    let b = tally::named(a, b"overlapping hits", overlapping());
-    let c = tally::named(b, b"a shorter pattern too", shorter_too());
-    let d = tally::named(c, b"a distance out of the window", cut_distance());
-    tally::named(d, b"equal fingerprints", equal_fingerprints())
+    let a = test_tally::named(t, b"equal values", equal_values());
+    let b = test_tally::named(a, b"overlapping hits", overlapping());
+    let c = test_tally::named(b, b"a shorter pattern too", shorter_too());
+    let d = test_tally::named(c, b"a distance out of the window", cut_distance());
+    test_tally::named(d, b"equal fingerprints", equal_fingerprints())
 }
 
 // A hit array of 6 words for 3 patterns is full behind the first hit, and takes no value more.
@@ -230,10 +229,10 @@ fn short(set: &[u32], automaton: &[u32]) -> Difference {
 
 // The three patterns over a text, over no values, and with short hit arrays.
 fn three_over(t: Tally, set: &[u32], automaton: &[u32]) -> Tally {
-    let a = tally::named(t, b"three patterns", three_found(set, automaton));
-    let b = tally::named(a, b"no values", none_found(set, automaton));
-    let c = tally::named(b, b"a hit array of 6 words", exact(set, automaton));
-    tally::named(c, b"a hit array of 5 words", short(set, automaton))
+    let a = test_tally::named(t, b"three patterns", three_found(set, automaton));
+    let b = test_tally::named(a, b"no values", none_found(set, automaton));
+    let c = test_tally::named(b, b"a hit array of 6 words", exact(set, automaton));
+    test_tally::named(c, b"a hit array of 5 words", short(set, automaton))
 }
 
 fn three(t: Tally) -> Tally {
@@ -250,7 +249,7 @@ fn three(t: Tally) -> Tally {
 }
 
 pub(crate) fn all_cases(group: &[u8]) -> Tally {
-    let t = three(parting(starred(tally::none())));
-    tally::report(group, t);
+    let t = three(parting(starred(test_tally::none())));
+    test_tally::report(group, t);
     t
 }

@@ -1,10 +1,9 @@
 // The set of three patterns: 20 words, and 11 nodes.
+use test_differences::difference;
+use test_differences::difference::Difference;
+use test_differences::expect;
 use test_inputs::arrays;
-use test_inputs::difference;
-use test_inputs::difference::Difference;
-use test_inputs::expect;
-use test_inputs::tally;
-use test_inputs::tally::Tally;
+use test_tally::Tally;
 
 // Adds a pattern to a set array, which then is expected to have so many patterns and distances.
 fn add(
@@ -56,8 +55,8 @@ pub(crate) fn all_cases(group: &[u8]) -> Tally {
     let mut set = [0u32; 24];
     let a = three_in(&mut set);
     let b = difference::first(a, expect_set(&set));
-    let t = tally::named(tally::none(), b"set of three patterns", b);
-    let u = tally::named(t, b"automaton of three patterns", expect_nodes(&set));
-    tally::report(group, u);
+    let t = test_tally::named(test_tally::none(), b"set of three patterns", b);
+    let u = test_tally::named(t, b"automaton of three patterns", expect_nodes(&set));
+    test_tally::report(group, u);
     u
 }

@@ -4,7 +4,7 @@ use Rattle.lists.proofs.Tests.{clash}
 use Rattle.lists.proofs.Prelude.{_≡_, _∙_, ap, sym, refl, Bool, true, false, cond, _||_, List, [], _∷_, map, ℕ, zero, suc, _+_, _-_, _≤_, _<_, eqb, leb}
 use Rattle.lists.proofs.Prelude.{eqb·suc-suc, eqb·zero-suc, length, getD, drop, drop-of-length-le, drop-cons, add-one, decLt, arith, eq-eqb, ne-eqb, leb-true}
 use Rattle.lists.proofs.Prelude.{leb-false, any, select}
-use Rattle.realization.specs.Realization.{leads, opened, walk}
+use Rattle.realization.specs.Walk.{leads, opened, walk}
 use Rattle.compute_realization.specs.OpenDistances.{openDistances}
 
 -- ---- which places are among those that are opened

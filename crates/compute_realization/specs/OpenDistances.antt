@@ -1,6 +1,6 @@
--- What is open before a place of a list of distances, where the walk of `realizable` comes by.
+-- What is open before a place of a list of distances, where the walk comes by.
 use Rattle.lists.specs.Prelude.{_≡_, true, List, [], ℕ, zero, suc, _<_, getD}
-use Rattle.realization.specs.Realization.{leads, opened}
+use Rattle.realization.specs.Walk.{leads, opened}
 
 -- how far back each place is that is open after the first i distances, nearest first
 unfoldable pub openDistances : List ℕ → ℕ → List ℕ

@@ -2,7 +2,8 @@
 // time.
 ghost use lib.IntN.{_+ℤ_};
 ghost use Rattle.lists.specs.Prelude.{_≡_, true, _++_, ℕ, _-_, _≤_, _<_, eqb, pos, _≤ℤ_, length, getD, drop, any};
-ghost use Rattle.realization.specs.Realization.{leads, realizable, leastRealization};
+ghost use Rattle.realization.specs.Realization.{realizable, leastRealization};
+ghost use Rattle.realization.specs.Walk.{leads};
 ghost use Rattle.compute_realization.specs.OpenDistances.{openDistances, Led};
 ghost use Rattle.compute_realization.specs.NextLower.{IsNext};
 

@@ -1,3 +1,4 @@
 -- The root of the crate's laws.
 pub mod Refusals
 pub mod Searchable
+pub mod Stream

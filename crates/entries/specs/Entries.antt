@@ -7,7 +7,7 @@ use Rattle.pattern_set.specs.PatternSet.{setWords, isSet, patternsOf}
 use Rattle.matching.specs.Matching.{hits, hitWords, candidates}
 use Rattle.automaton_model.specs.Automaton.{nodes, automatonWords}
 use Rattle.answers.specs.declared.SearchState.{SearchState}
-use Rattle.search_model.specs.Search.{goodState, Called, call}
+use Rattle.search_model.specs.Search.{goodState, call}
 
 -- ---- What entries have in common. Document 01: Of the conditions that concern a call, the first
 -- met gives its number.
@@ -82,8 +82,7 @@ emptySetEntry out = record { conditions = (10, ltb (length out) 3) ∷ []; count
 
 -- check of a set array: patterns and distances
 abbrev pub checkEntry : List ℕ → Entry (ℕ × ℕ) ℕ
-checkEntry ws =
-    record { conditions = (5, not (isSet ws)) ∷ []; counts = (length (patternsOf ws), length (flatten (patternsOf ws))); result = [] }
+checkEntry ws = record { conditions = (5, not (isSet ws)) ∷ []; counts = (length (patternsOf ws), length (flatten (patternsOf ws))); result = [] }
 
 -- adding a pattern, given as values: it becomes the last one
 abbrev pub addEntry : List ℕ → List ℤ → Entry (ℕ × ℕ) ℕ
@@ -109,10 +108,6 @@ buildEntry ws out =
 abbrev pub Counts : Type 0
 Counts = ℕ × ℕ × ℕ × ℕ
 
--- a call under these conditions that does this where it is accepted
-abbrev pub calledEntry : {S : Type 0} → Conditions → Called S → Entry Counts ℕ
-calledEntry cs c = record { conditions = cs; counts = (c .ended, c .taken, length (c .hits), c .attempts); result = hitWords (c .hits) }
-
 unfoldable pub streamConditions : List ℕ → List ℕ → SearchState → List ℤ → List ℕ → Conditions
 streamConditions ws automaton st xs out =
     let ps = patternsOf ws in
@@ -120,7 +115,9 @@ streamConditions ws automaton st xs out =
     ∷ (9, ltb 1048576 (st .taken + length xs)) ∷ (10, ltb (length out) (2 * length ps)) ∷ []
 
 abbrev pub streamEntry : List ℕ → List ℕ → SearchState → List ℤ → List ℕ → Entry Counts ℕ
-streamEntry ws automaton st xs out = calledEntry (streamConditions ws automaton st xs out) (call (patternsOf ws) st (length out) xs)
+streamEntry ws automaton st xs out =
+    let c = call (patternsOf ws) st (length out) xs in
+    record { conditions = streamConditions ws automaton st xs out; counts = (c .ended, c .taken, length (c .hits), c .attempts); result = hitWords (c .hits) }
 
 -- the state handed back
 abbrev pub streamState : List ℕ → List ℕ → SearchState → List ℤ → List ℕ → SearchState

@@ -45,8 +45,9 @@ fn look_at(
     }
 }
 
-// The candidates of the text. A pattern with a hit is a candidate, so a place without candidates is
-// passed by.
+// The candidates of the text. Both fingerprints are rolled at each place: that of the last b
+// values, and own, that of the last 17. A pattern with a hit is a candidate, so a place whose set
+// fingerprint no pattern has is passed by.
 fn count_candidates(
     set: &[u32],
     text: &[i32],
@@ -69,13 +70,17 @@ fn count_candidates(
 {
     let b = filter_tables::shortest_length(set);
     let n = text.len();
+    let mut fingerprint = 0;
     let mut own = 0;
     let mut count = 0;
     let mut p = 0;
     while p < n {
-        own = filter_windows::own_next(text, p, own);
-        let here = filter_windows::candidates_at(setlow, sethigh, fits, own, b, p);
-        if here != 0 {
+        let bit = filter_windows::new_bit(text, p);
+        fingerprint = filter_windows::roll(fingerprint, bit, b);
+        own = filter_windows::roll(own, bit, 17);
+        let alike = filter_windows::by_set_fingerprint(setlow, sethigh, fingerprint);
+        if alike != 0 {
+            let here = filter_windows::fitting(alike, fits, p);
             count += bit_sets::size(here);
             look_at(
                 set,

@@ -13,7 +13,8 @@ pub struct Counts {
     pub candidates: usize,
 }
 
-// Counts the candidates of the text and writes its hits, for which there is room.
+// Counts the candidates of the text and writes its hits, for which there is room. Both fingerprints
+// are rolled at each place: that of the last b values, and own, that of the last 17.
 fn search_places(
     set: &[u32],
     text: &[i32],
@@ -36,14 +37,18 @@ fn search_places(
 {
     let b = filter_tables::shortest_length(set);
     let n = text.len();
+    let mut fingerprint = 0;
     let mut own = 0;
     let mut count = 0;
     let mut to = 0;
     let mut p = 0;
     while p < n {
-        own = filter_windows::own_next(text, p, own);
-        let here = filter_windows::candidates_at(setlow, sethigh, fits, own, b, p);
-        if here != 0 {
+        let bit = filter_windows::new_bit(text, p);
+        fingerprint = filter_windows::roll(fingerprint, bit, b);
+        own = filter_windows::roll(own, bit, 17);
+        let alike = filter_windows::by_set_fingerprint(setlow, sethigh, fingerprint);
+        if alike != 0 {
+            let here = filter_windows::fitting(alike, fits, p);
             count += bit_sets::size(here);
             let found = filter_windows::hits_at(
                 set,

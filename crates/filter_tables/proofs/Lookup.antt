@@ -15,7 +15,7 @@ use Rattle.bit_sets.proofs.Laws.{bits-by}
 use Rattle.pattern_set.specs.PatternSet.{PatternSet, goodSet}
 use Rattle.matching.specs.Matching.{shortest, isCandidate}
 use Rattle.filter_plan.specs.Plan.{hitOrder, textFingerprint, patternFingerprint, ownLength, isLikely}
-use Rattle.filter_plan.proofs.Fingerprints.{textFingerprint-lt, textFingerprint-part}
+use Rattle.filter_plan.proofs.Fingerprints.{textFingerprint-bytes, textFingerprint-part}
 use Rattle.filter_plan.proofs.HitOrder.{hitOrder-lt, length-hitOrder}
 use Rattle.filter_plan.proofs.Checks.{shortest-bound, shortest-positive}
 use Rattle.pattern_set.proofs.Good.{good-pattern}
@@ -111,28 +111,26 @@ module _ (ps : PatternSet) (text : List ℤ) (good : T (goodSet ps)) (some : 1 �
   place-lt : lastPlace (length text) < 256
   place-lt = omega arith
 
-  fingerprint-lt : (m : ℕ) → 1 ≤ m → m ≤ 17 → textFingerprint m text < 65536
-  fingerprint-lt m h k = lt-of-lt-of-le (textFingerprint-lt m text h) (pow-mono {i = m - 1} {j = 16} (omega arith))
-
   -- the fingerprint of 17 values has two bytes
   pub own-fingerprint-bytes : (textFingerprint 17 text % 256 < 256) × (textFingerprint 17 text / 256 < 256)
-  own-fingerprint-bytes = let h = fingerprint-lt 17 (omega arith) (omega arith) in (omega arith, omega arith)
+  own-fingerprint-bytes = let h = textFingerprint-bytes 17 text (omega arith) (omega arith) in (omega arith, omega arith)
 
   module _ (b : ℕ) (b≡ : b ≡ shortest 17 ps) where
     -- the set fingerprint has two bytes
     pub set-fingerprint-bytes : (textFingerprint b text % 256 < 256) × (textFingerprint b text / 256 < 256)
     set-fingerprint-bytes =
         let h : textFingerprint b text < 65536 =
-        fingerprint-lt b (omega (arith, shortest-positive 17 ps good (omega arith))) (omega (arith, shortest-bound 17 ps)) in
+        textFingerprint-bytes b text (omega (arith, shortest-positive 17 ps good (omega arith))) (omega (arith, shortest-bound 17 ps)) in
         (omega arith, omega arith)
 
     -- CANDIDATES: what the sets at the bytes of the set fingerprint and at the last place have in
     -- common
-    pub candidate-bit : (low high fits : List ℕ) → TableOf ps (setLow b) low → TableOf ps (setHigh b) high → TableOf ps fitsAt fits → (r : ℕ) → r < 64
-        → ((bitAt (getD low (textFingerprint b text % 256) 0) r && bitAt (getD high (textFingerprint b text / 256) 0) r) && bitAt
+    pub candidate-bit : (lowbyte highbyte fits : List ℕ) → TableOf ps (setLow b) lowbyte → TableOf ps (setHigh b) highbyte → TableOf ps fitsAt fits
+        → (r : ℕ) → r < 64
+        → ((bitAt (getD lowbyte (textFingerprint b text % 256) 0) r && bitAt (getD highbyte (textFingerprint b text / 256) 0) r) && bitAt
         (getD fits (lastPlace (length text)) 0) r) ≡ (ltb r (length ps) && isCandidate b text (ranked ps r))
     unfolding isCandidate
-    candidate-bit low high fits l h f r k =
+    candidate-bit lowbyte highbyte fits l h f r k =
         let fingerprint = textFingerprint b text in
         let p = ranked ps r in
         ap₂ _&&_ (ap₂ _&&_ (l (fingerprint % 256) (set-fingerprint-bytes .0) r k) (h (fingerprint / 256) (set-fingerprint-bytes .1) r k))
@@ -144,11 +142,11 @@ module _ (ps : PatternSet) (text : List ℤ) (good : T (goodSet ps)) (some : 1 �
 
   -- LIKELY PATTERNS: what the own tables at the bytes of the fingerprint of 17 values and the set
   -- at the last place have in common
-  pub own-bit : (low high fits : List ℕ) → TableOf ps ownLow low → TableOf ps ownHigh high → TableOf ps fitsAt fits → (r : ℕ) → r < 64
-      → ((bitAt (getD low (textFingerprint 17 text % 256) 0) r && bitAt (getD high (textFingerprint 17 text / 256) 0) r) && bitAt
+  pub own-bit : (lowbyte highbyte fits : List ℕ) → TableOf ps ownLow lowbyte → TableOf ps ownHigh highbyte → TableOf ps fitsAt fits → (r : ℕ) → r < 64
+      → ((bitAt (getD lowbyte (textFingerprint 17 text % 256) 0) r && bitAt (getD highbyte (textFingerprint 17 text / 256) 0) r) && bitAt
       (getD fits (lastPlace (length text)) 0) r) ≡ (ltb r (length ps) && isLikely text (ranked ps r))
   unfolding isLikely
-  own-bit low high fits l h f r k =
+  own-bit lowbyte highbyte fits l h f r k =
       let p = ranked ps r in
       ap₂ _&&_
       (ap₂ _&&_ (l (textFingerprint 17 text % 256) (own-fingerprint-bytes .0) r k) (h (textFingerprint 17 text / 256) (own-fingerprint-bytes .1) r k))

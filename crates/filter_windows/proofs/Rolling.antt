@@ -2,8 +2,9 @@
 -- oldest out, so that after 16 places the fingerprint of 17 values is the same whatever it was
 -- before.
 use lib.Bits.{bitAnd, bitOr, and-mask, or-shifted}
+use lib.Pow.{high, ones-lt, ones-split}
 use Rattle.lists.proofs.Prelude.{_≡_, _∙_, ap, sym, refl, Bool, true, false, cond, List, [], _∷_, _++_, append-assoc, ℕ, zero, suc, _+_, _-_, _*_, _/_, _%_}
-use Rattle.lists.proofs.Prelude.{_^_, _≤_, _<_, ℤ, pos, leZ, length, getD, take, length-take, take-suc, pow-lt, mod-lt, pow-suc, mod-eq-of-lt}
+use Rattle.lists.proofs.Prelude.{_^_, _≤_, _<_, ℤ, pos, leZ, length, getD, take, length-take, take-suc, mod-lt, pow-suc, mod-eq-of-lt}
 use Rattle.lists.proofs.Prelude.{mul-add-mod-self-right, add-mul, div-add-mod', min-le-left, zero-mod, one-le-pow, add-assoc, mul-assoc, pow-le-pow-right}
 use Rattle.lists.proofs.Prelude.{add-one, sub-one, decLt, arith}
 use Rattle.lists.proofs.Parts.{lastOf-all}
@@ -34,13 +35,16 @@ newBit-lt text (suc p) = go (leZ (getD text p (pos 0)) (getD text (suc p) (pos 0
 
 -- ---- the roll by shift and mask
 
-pub mask-shift : (d : ℕ) → d < 32 → 1 * 2 ^ d % 4294967296 ≡ 2 ^ d
-mask-shift d h = omega (arith, pow-lt {i = d} {j = 32} h)
+-- 16 ones without the lowest k of them
+mask-ones : (d k : ℕ) → d + k ≡ 16 → 65535 / 2 ^ k ≡ 2 ^ d - 1
+mask-ones d k e =
+    ap (λ (n : ℕ). (2 ^ n - 1) / 2 ^ k) (sym e) ∙ ap (λ (n : ℕ). n / 2 ^ k) (ones-split d k) ∙ high (2 ^ d - 1) k (ones-lt k)
 
-pub rolled : (n bit : ℕ) → n < 65536 → bit < 2 → bitAnd (bitOr (n * 2 % 4294967296) bit) 65535 ≡ (n * 2 + bit) % 65536
-rolled n bit h b =
+pub rolled : (n bit m : ℕ) → n < 65536 → bit < 2 → 1 ≤ m → m ≤ 17
+    → bitAnd (bitOr (n * 2 % 4294967296) bit) (65535 / 2 ^ (17 - m)) ≡ (n * 2 + bit) % 2 ^ (m - 1)
+rolled n bit m h b l k =
     let e : n * 2 % 4294967296 ≡ n * 2 = omega arith in
-    rw (e, or-shifted n 1 bit b) (and-mask (n * 2 + bit) 16)
+    rw (e, or-shifted n 1 bit b, mask-ones (m - 1) (17 - m) (omega arith)) (and-mask (n * 2 + bit) (m - 1))
 
 -- the fingerprint one place on
 fingerprint-next : (m : ℕ) (text : List ℤ) (p : ℕ) → 1 ≤ m → p < length text
@@ -124,11 +128,11 @@ fingerprint-end text p = go (decLt p 16)
         ap fingerprint (lastOf-all (suc (p - (p - 16))) (take p text) (omega arith)) ∙ sym (ap fingerprint (lastOf-all 17 (take p text) (omega arith)))
     go (no f) = let e : p - (p - 16) ≡ 16 = omega arith in rw e refl
 
--- the fingerprint of 17 values at the next place, in the words of the code
-pub own-rolled : (text : List ℤ) (p own bit next : ℕ) → p < length text
-    → own ≡ textFingerprint 17 (take p text) → bit ≡ newBit text p → next ≡ (own * 2 + bit) % 65536
-    → next ≡ textFingerprint 17 (take (suc p) text)
-own-rolled text p own bit next l k b n = n ∙ rw (k, b) (sym (fingerprint-next 17 text p (omega arith) l))
+-- the fingerprint of m values at the next place, in the words of the code
+pub fingerprint-rolled : (m : ℕ) (text : List ℤ) (p before bit next : ℕ) → 1 ≤ m → p < length text
+    → before ≡ textFingerprint m (take p text) → bit ≡ newBit text p → next ≡ (before * 2 + bit) % 2 ^ (m - 1)
+    → next ≡ textFingerprint m (take (suc p) text)
+fingerprint-rolled m text p before bit next h l k b n = n ∙ rw (k, b) (sym (fingerprint-next m text p h l))
 
 -- before the first place
 pub fingerprint-none : (m : ℕ) (text : List ℤ) → 0 ≡ textFingerprint m (take 0 text)

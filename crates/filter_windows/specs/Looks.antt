@@ -20,8 +20,8 @@ SetOf ps test set = (r : ℕ) → r < 64 → bitAt set r ≡ (ltb r (length ps) 
 -- the set has the patterns that two tables have for a fingerprint, by its lower and by its high
 -- byte
 abbrev pub Alike : List ℕ → List ℕ → ℕ → ℕ → Type 0
-Alike low high fingerprint set =
-    (r : ℕ) → r < 64 → bitAt set r ≡ (bitAt (getD low (fingerprint % 256) 0) r && bitAt (getD high (fingerprint / 256) 0) r)
+Alike lowbyte highbyte fingerprint set =
+    (r : ℕ) → r < 64 → bitAt set r ≡ (bitAt (getD lowbyte (fingerprint % 256) 0) r && bitAt (getD highbyte (fingerprint / 256) 0) r)
 
 -- the second set has those of the first that the table by last places has for p, or for 255 where p
 -- is behind it
@@ -30,22 +30,22 @@ Fitting fits p all set = (r : ℕ) → r < 64 → bitAt set r ≡ (bitAt all r &
 
 -- the set has the patterns that all three tables have
 abbrev pub Looked : List ℕ → List ℕ → List ℕ → ℕ → ℕ → ℕ → Type 0
-Looked low high fits fingerprint p set =
+Looked lowbyte highbyte fits fingerprint p set =
     (r : ℕ) → r < 64
-    → bitAt set r ≡ (bitAt (getD low (fingerprint % 256) 0) r && bitAt (getD high (fingerprint / 256) 0) r && bitAt (getD fits (min 255 p) 0) r)
+    → bitAt set r ≡ (bitAt (getD lowbyte (fingerprint % 256) 0) r && bitAt (getD highbyte (fingerprint / 256) 0) r && bitAt (getD fits (min 255 p) 0) r)
 
 -- ---- the tables
 
 -- for the candidates: by the fingerprint of the last b values, and by the last place
-pub record SetTables (ps : PatternSet) (low high fits : List ℕ) : Type 0 where
-  pub byLow : TableOf ps (setLow (shortest 17 ps)) low
-  pub byHigh : TableOf ps (setHigh (shortest 17 ps)) high
+pub record SetTables (ps : PatternSet) (lowbyte highbyte fits : List ℕ) : Type 0 where
+  pub byLow : TableOf ps (setLow (shortest 17 ps)) lowbyte
+  pub byHigh : TableOf ps (setHigh (shortest 17 ps)) highbyte
   pub byPlace : TableOf ps fitsAt fits
 
 -- for the likely patterns: by the fingerprint of the last 17 values, and by the last place
-pub record OwnTables (ps : PatternSet) (low high fits : List ℕ) : Type 0 where
-  pub byLow : TableOf ps ownLow low
-  pub byHigh : TableOf ps ownHigh high
+pub record OwnTables (ps : PatternSet) (lowbyte highbyte fits : List ℕ) : Type 0 where
+  pub byLow : TableOf ps ownLow lowbyte
+  pub byHigh : TableOf ps ownHigh highbyte
   pub byPlace : TableOf ps fitsAt fits
 
 -- for the check: pattern numbers by rank, and global parents
@@ -54,6 +54,6 @@ pub record CheckTables (ps : PatternSet) (numbers parents : List ℕ) : Type 0 w
   pub parentLists : Parents ps parents
 
 -- for the hits: for the likely patterns and for their check
-pub record HitTables (ps : PatternSet) (low high fits numbers parents : List ℕ) : Type 0 where
-  pub own : OwnTables ps low high fits
+pub record HitTables (ps : PatternSet) (lowbyte highbyte fits numbers parents : List ℕ) : Type 0 where
+  pub own : OwnTables ps lowbyte highbyte fits
   pub check : CheckTables ps numbers parents

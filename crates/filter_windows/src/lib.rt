@@ -17,7 +17,7 @@ fn not_below(text: &[i32], p: usize) -> bool
 }
 
 // The bit that place p adds to a fingerprint: 1 where its value is not below the one before it.
-fn new_bit(text: &[i32], p: usize) -> u32
+pub fn new_bit(text: &[i32], p: usize) -> u32
     requires { ⌜ p < length (now text) ⌝ }
     ensures { λ r. ⌜ (r ≡ newBit (now (text .entry)) p) × (r < 2) ⌝ }
 {
@@ -30,12 +30,13 @@ fn new_bit(text: &[i32], p: usize) -> u32
     }
 }
 
-// A fingerprint of 17 values, one place on: a shift, the new bit and a mask.
-fn roll(fingerprint: u32, bit: u32) -> u32
-    requires { ⌜ (fingerprint < 65536) × (bit < 2) ⌝ }
-    ensures { λ r. ⌜ r ≡ (fingerprint * 2 + bit) % 65536 ⌝ }
+// The fingerprint of the last m values, one place on: a shift, the new bit and a mask.
+pub fn roll(fingerprint: u32, bit: u32, m: usize) -> u32
+    requires { ⌜ (fingerprint < 65536) × (bit < 2) × (1 ≤ m) × (m ≤ 17) ⌝ }
+    ensures { λ r. ⌜ r ≡ (fingerprint * 2 + bit) % 2 ^ (m - 1) ⌝ }
 {
-    ((fingerprint << 1) | bit) & 65535
+    let mask: u32 = 65535 >> (17 - m);
+    ((fingerprint << 1) | bit) & mask
 }
 
 // The fingerprint of the last 17 values up to place p, where own is the one before it.
@@ -43,7 +44,7 @@ pub fn own_next(text: &[i32], p: usize, own: u32) -> u32
     requires { ⌜ (p < length (now text)) × (own ≡ textFingerprint 17 (take p (now text))) ⌝ }
     ensures { λ r. ⌜ r ≡ textFingerprint 17 (take (suc p) (now (text .entry))) ⌝ }
 {
-    roll(own, new_bit(text, p))
+    roll(own, new_bit(text, p), 17)
 }
 
 // The place 16 places back, or the first.
@@ -62,19 +63,10 @@ pub fn fingerprint_before(text: &[i32], end: usize) -> u32
     let mut fingerprint = 0;
     while p < end {
         let bit = new_bit(text, p);
-        fingerprint = roll(fingerprint, bit);
+        fingerprint = roll(fingerprint, bit, 17);
         p += 1;
     }
     fingerprint
-}
-
-// The fingerprint of the last b values, from that of the last 17: its lowest bits.
-fn shorter(own: u32, b: usize) -> u32
-    requires { ⌜ (1 ≤ b) × (b ≤ 17) ⌝ }
-    ensures { λ r. ⌜ r ≡ own % 2 ^ (b - 1) ⌝ }
-{
-    let mask: u32 = (1 << (b - 1)) - 1;
-    own & mask
 }
 
 // ---- looks into the tables
@@ -87,16 +79,24 @@ fn capped(p: usize) -> usize
 }
 
 // The patterns that two tables have, for a fingerprint by its two bytes.
-fn by_fingerprint(low: &[u64; 256], high: &[u64; 256], fingerprint: u32) -> u64
+fn by_fingerprint(lowbyte: &[u64; 256], highbyte: &[u64; 256], fingerprint: u32) -> u64
     requires { ⌜ fingerprint < 65536 ⌝ }
-    ensures { λ s. ⌜ Alike (now (low .entry)) (now (high .entry)) fingerprint s ⌝ }
+    ensures { λ s. ⌜ Alike (now (lowbyte .entry)) (now (highbyte .entry)) fingerprint s ⌝ }
 {
     let k = casts::wide(fingerprint);
-    bit_sets::common(low[k % 256], high[k / 256])
+    bit_sets::common(lowbyte[k % 256], highbyte[k / 256])
+}
+
+// The patterns that have the set fingerprint.
+pub fn by_set_fingerprint(setlow: &[u64; 256], sethigh: &[u64; 256], fingerprint: u32) -> u64
+    requires { ⌜ fingerprint < 65536 ⌝ }
+    ensures { λ s. ⌜ Alike (now (setlow .entry)) (now (sethigh .entry)) fingerprint s ⌝ }
+{
+    by_fingerprint(setlow, sethigh, fingerprint)
 }
 
 // Of a set of patterns those whose window with the last place p lies within the text.
-fn fitting(set: u64, fits: &[u64; 256], p: usize) -> u64
+pub fn fitting(set: u64, fits: &[u64; 256], p: usize) -> u64
     ensures { λ s. ⌜ Fitting (now (fits .entry)) p set s ⌝ }
 {
     let last = capped(p);
@@ -105,33 +105,22 @@ fn fitting(set: u64, fits: &[u64; 256], p: usize) -> u64
 
 // The patterns that the tables have for a fingerprint and for the last place p. Where no pattern
 // has the fingerprint, the place is not asked for.
-fn look(low: &[u64; 256], high: &[u64; 256], fits: &[u64; 256], fingerprint: u32, p: usize) -> u64
+fn look(
+    lowbyte: &[u64; 256],
+    highbyte: &[u64; 256],
+    fits: &[u64; 256],
+    fingerprint: u32,
+    p: usize,
+) -> u64
     requires { ⌜ fingerprint < 65536 ⌝ }
-    ensures { λ s. ⌜ Looked (now (low .entry)) (now (high .entry)) (now (fits .entry)) fingerprint p s ⌝ }
+    ensures { λ s. ⌜ Looked (now (lowbyte .entry)) (now (highbyte .entry)) (now (fits .entry)) fingerprint p s ⌝ }
 {
-    let alike = by_fingerprint(low, high, fingerprint);
+    let alike = by_fingerprint(lowbyte, highbyte, fingerprint);
     if alike == 0 {
         0
     } else {
         fitting(alike, fits, p)
     }
-}
-
-// A look with the set fingerprint, which is of b values, where own is the fingerprint of the last
-// 17: it finds the candidates.
-pub fn candidates_at(
-    setlow: &[u64; 256],
-    sethigh: &[u64; 256],
-    fits: &[u64; 256],
-    own: u32,
-    b: usize,
-    p: usize,
-) -> u64
-    requires { ⌜ (own < 65536) × (1 ≤ b) × (b ≤ 17) ⌝ }
-    ensures { λ s. ⌜ Looked (now (setlow .entry)) (now (sethigh .entry)) (now (fits .entry)) (own % 2 ^ (b - 1)) p s ⌝ }
-{
-    let fingerprint = shorter(own, b);
-    look(setlow, sethigh, fits, fingerprint, p)
 }
 
 // ---- windows

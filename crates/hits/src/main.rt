@@ -1,55 +1,70 @@
 // The program `hits`: reads patterns and a text from standard input, runs a stream search, and
-// prints the hits and the attempts. Document 01: Program `hits`.
-mod printing;
-mod searching;
+// prints the hits and the attempts. Document 01: Program `hits`. What it prints comes piece by
+// piece from the crate `hits_pieces`; each piece is written before the next is asked for, and the
+// first write that fails is the last, so that a list that ends with the attempts is complete.
+ghost use Rattle.lists.specs.Prelude.{_≤_, length};
+use hits_pieces::first;
+use hits_pieces::search;
 
-use hits_calls::preparing;
-use hits_input::Parsed;
+// Writes the pieces of a search, one after the other, up to the last or to a write that fails.
+// Every piece but the last brings the search nearer to its end.
+fn write_pieces(set: &[u32], automaton: &[u32], text: &[i32], hits: &mut [u32], out: &mut [u8])
+    requires { ⌜ 63 ≤ length (now out) ⌝ }
+{
+    let mut p = search::begin();
+    loop {
+        let piece = search::next_piece(set, automaton, text, p, hits, out);
+        let bytes = piece.bytes;
+        if !io::write_all(1, &out[..bytes]) {
+            return;
+        }
+        if !piece.more {
+            return;
+        }
+        p = piece.progress;
+    }
+}
 
-// Makes the set of the k patterns whose ends are given and its automaton, and searches the text's
-// first n values; the first call that is refused is told.
-fn answer(
-    values: &[i32],
-    ends: &[u32],
-    k: usize,
-    text: &[i32],
-    n: usize,
+// Writes the first piece, and where more follows the pieces of the search over the text's first
+// values.
+fn write_answer(
+    bytes: &[u8],
     set: &mut [u32],
     automaton: &mut [u32],
-) {
-    let count = preparing::smaller(k, ends.len());
-    let size = preparing::smaller(n, text.len());
-    let refused = preparing::prepare(values, &ends[..count], set, automaton);
-    if refused > 0 {
-        printing::print_refused(refused);
-        return;
-    }
-    searching::search(set, automaton, &text[..size]);
-}
-
-// The answer to an input that was read into these arrays.
-fn run_calls(values: &[i32; 1023], ends: &[u32; 1023], k: usize, text: &[i32; 32768], n: usize) {
-    let mut set = [0u32; 1090];
-    let mut automaton = [0u32; 16384];
-    answer(values, ends, k, text, n, &mut set, &mut automaton);
-}
-
-// Reads the bytes into the arrays, and answers.
-fn run(bytes: &[u8]) {
+    hits: &mut [u32],
+    out: &mut [u8],
+)
+    requires { ⌜ 63 ≤ length (now out) ⌝ }
+{
     let mut values = [0i32; 1023];
     let mut ends = [0u32; 1023];
     let mut text = [0i32; 32768];
-    match hits_input::read_input(bytes, &mut values, &mut ends, &mut text) {
-        Parsed::Good(k, n) => run_calls(&values, &ends, k, &text, n),
-        Parsed::Bad => {
-            io::write_all(1, b"bad input\n");
-        }
+    let f = first::first_piece(
+        bytes,
+        &mut values,
+        &mut ends,
+        &mut text,
+        set,
+        automaton,
+        out,
+    );
+    let n = f.bytes;
+    if !io::write_all(1, &out[..n]) {
+        return;
+    }
+    if f.more {
+        let size = f.size;
+        write_pieces(set, automaton, &text[..size], hits, out);
     }
 }
 
 // One byte more is read than an input may have, so that a longer one is seen.
 fn main() {
     let mut buf = [0u8; 65537];
+    let mut set = [0u32; 1090];
+    let mut automaton = [0u32; 16384];
+    let mut hits = [0u32; 8192];
+    let mut out = [0u8; 258048];
     let n = io::read_full(0, &mut buf);
-    run(&buf[..n]);
+    write_answer(&buf[..n], &mut set, &mut automaton, &mut hits, &mut out);
 }

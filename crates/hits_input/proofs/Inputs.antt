@@ -2,8 +2,8 @@
 -- which is the last line and ends.
 use Rattle.lists.proofs.Prelude.{_≡_, _∙_, ap, sym, refl, ap₂, Bool, true, false, Option, none, some, List, [], _∷_, _++_, append-nil, flatten, ℕ, suc, _+_}
 use Rattle.lists.proofs.Prelude.{_-_, _≤_, _<_, ℤ, eqb, length, getD, take, drop, set, length-append, length-take, length-drop, length-set, drop-of-length-le}
-use Rattle.lists.proofs.Prelude.{drop-cons, append-snoc, take-suc-set, add-one, decLt, arith, eq-eqb, le-leb, ne-eqb, lt-leb, eqb-true, eqb-false}
-use Rattle.lists.proofs.Parts.{length-snoc}
+use Rattle.lists.proofs.Prelude.{drop-cons, append-snoc, decLt, arith, eq-eqb, le-leb, ne-eqb, lt-leb, eqb-true, eqb-false}
+use Rattle.lists.proofs.Parts.{length-snoc, store-behind, write-behind}
 use Rattle.lists.proofs.Rows.{flatten-append}
 use Rattle.hits_input.specs.declared.Parsed.{Parsed}
 use Rattle.hits_input.specs.Input.{andThen, parts, readLine, Input, readLines, readInput}
@@ -46,7 +46,7 @@ behind-snoc ps x (some i) = ap (λ (l : List (List ℤ)). some (record { pattern
 -- ---- the loop over the pattern lines
 
 -- the pattern lines before place `from` are read
-pub record Reading (bytes : List ℕ) (values : List ℤ) (ends : List ℕ) (from count filled : ℕ) : Type 0 where
+pub record Reading (bytes : List ℕ) (values₀ : List ℤ) (ends₀ : List ℕ) (values : List ℤ) (ends : List ℕ) (from count filled : ℕ) : Type 0 where
   -- the place is one of the bytes, or their end
   pub within : from ≤ length bytes
   -- the arrays have their lengths
@@ -54,7 +54,7 @@ pub record Reading (bytes : List ℕ) (values : List ℤ) (ends : List ℕ) (fro
   pub sizedEnds : length ends ≡ 1023
   -- the patterns that are read, and that they lie in the arrays
   pub ps : List (List ℤ)
-  pub lie : Lie ps values ends count
+  pub lie : Lie ps values₀ ends₀ values ends count
   -- `filled` is where their values end
   pub filledBy : filled ≡ length (flatten ps)
   -- each of them has a value
@@ -62,10 +62,11 @@ pub record Reading (bytes : List ℕ) (values : List ℤ) (ends : List ℕ) (fro
   -- the input is these patterns and what the bytes from the place on hold
   pub rest : readLines (parts 10 bytes) ≡ behind ps (readLines (parts 10 (drop from bytes)))
 
-pub filled-le : {bytes : List ℕ} {values : List ℤ} {ends : List ℕ} {from count filled : ℕ} → Reading bytes values ends from count filled → filled ≤ 1023
+pub filled-le : {bytes : List ℕ} {values₀ values : List ℤ} {ends₀ ends : List ℕ} {from count filled : ℕ}
+    → Reading bytes values₀ ends₀ values ends from count filled → filled ≤ 1023
 filled-le w = omega (arith, w .filledBy, w .lie .fit)
 
-pub lines-start : (bytes : List ℕ) (values : List ℤ) (ends : List ℕ) → length values ≡ 1023 → length ends ≡ 1023 → Reading bytes values ends 0 0 0
+pub lines-start : (bytes : List ℕ) (values : List ℤ) (ends : List ℕ) → length values ≡ 1023 → length ends ≡ 1023 → Reading bytes values ends values ends 0 0 0
 unfolding flatten endsOf
 lines-start bytes values ends a b =
     record {
@@ -80,10 +81,11 @@ lines-start bytes values ends a b =
     }
 
 -- a line that does not end
-pub lines-over : {bytes : List ℕ} {values : List ℤ} {ends : List ℕ} {from count filled e r : ℕ} → Reading bytes values ends from count filled
+pub lines-over : {bytes : List ℕ} {values₀ values : List ℤ} {ends₀ ends : List ℕ} {from count filled e r : ℕ}
+    → Reading bytes values₀ ends₀ values ends from count filled
     → e ≡ from + upTo 10 (drop from bytes) → e ≡ length bytes
-    → length bytes < r → PatternsRead bytes values ends count r
-lines-over {bytes} {values} {ends} {from} {count} {filled} {e} {r} w q l h =
+    → length bytes < r → PatternsRead bytes values₀ ends₀ values ends count r
+lines-over {bytes} {values₀} {values} {ends₀} {ends} {from} {count} {filled} {e} {r} w q l h =
     record {
       bad =
           λ k. ap limited
@@ -94,10 +96,11 @@ lines-over {bytes} {values} {ends} {from} {count} {filled} {e} {r} w q l h =
     }
 
 -- an empty line
-pub lines-empty : {bytes : List ℕ} {values : List ℤ} {ends : List ℕ} {from count filled e : ℕ} → Reading bytes values ends from count filled
+pub lines-empty : {bytes : List ℕ} {values₀ values : List ℤ} {ends₀ ends : List ℕ} {from count filled e : ℕ}
+    → Reading bytes values₀ ends₀ values ends from count filled
     → e ≡ from + upTo 10 (drop from bytes) → e < length bytes
-    → e ≡ from → PatternsRead bytes values ends count (e + 1)
-lines-empty {bytes} {values} {ends} {from} {count} {filled} {e} w q l h =
+    → e ≡ from → PatternsRead bytes values₀ ends₀ values ends count (e + 1)
+lines-empty {bytes} {values₀} {values} {ends₀} {ends} {from} {count} {filled} {e} w q l h =
     let n : e - from ≡ 0 = omega arith in
     let s : parts 10 (drop from bytes) ≡ [] ∷ parts 10 (drop (e + 1) bytes) =
     parts-from 10 bytes from e (w .within) q l ∙ ap (λ (k : ℕ). take k (drop from bytes) ∷ parts 10 (drop (e + 1) bytes)) n in
@@ -107,21 +110,22 @@ lines-empty {bytes} {values} {ends} {from} {count} {filled} {e} w q l h =
     }
 
 -- the line from a place on, taken off the lines left
-line-off : {bytes : List ℕ} {values : List ℤ} {ends : List ℕ} {from count filled e : ℕ} (w : Reading bytes values ends from count filled)
+line-off : {bytes : List ℕ} {values₀ values : List ℤ} {ends₀ ends : List ℕ} {from count filled e : ℕ}
+    (w : Reading bytes values₀ ends₀ values ends from count filled)
     → e ≡ from + upTo 10 (drop from bytes) → e < length bytes → from < e
     → readLines (parts 10 bytes) ≡ behind (w .ps) (andThen (readLine (between from e bytes)) (λ x. behind (x ∷ []) (readLines (parts 10 (drop (e + 1) bytes)))))
-line-off {bytes} {values} {ends} {from} {count} {filled} {e} w q l h =
+line-off {bytes} {values₀} {values} {ends₀} {ends} {from} {count} {filled} {e} w q l h =
     w .rest
     ∙ ap (λ (ls : List (List ℕ)). behind (w .ps) (readLines ls)) (parts-from 10 bytes from e (w .within) q l)
     ∙ ap (behind (w .ps))
     (line-step (between from e bytes) (parts 10 (drop (e + 1) bytes)) (omega (arith, length-between from e bytes (omega arith) (omega arith))))
 
 -- a line that is bad or has no room
-pub lines-bad : {bytes : List ℕ} {values : List ℤ} {ends : List ℕ} {from count filled e f r : ℕ} {after : List ℤ}
-    → Reading bytes values ends from count filled → e ≡ from + upTo 10 (drop from bytes) → e < length bytes → from < e
-    → Put (readLine (between from e bytes)) filled values after f → 1023 < f → length bytes < r → PatternsRead bytes after ends count r
+pub lines-bad : {bytes : List ℕ} {values₀ values : List ℤ} {ends₀ ends : List ℕ} {from count filled e f r : ℕ} {after : List ℤ}
+    → Reading bytes values₀ ends₀ values ends from count filled → e ≡ from + upTo 10 (drop from bytes) → e < length bytes → from < e
+    → Put (readLine (between from e bytes)) filled values after f → 1023 < f → length bytes < r → PatternsRead bytes values₀ ends₀ after ends count r
 unfolding flatten
-lines-bad {bytes} {values} {ends} {from} {count} {filled} {e} {f} {r} {after} w q l h p t k =
+lines-bad {bytes} {values₀} {values} {ends₀} {ends} {from} {count} {filled} {e} {f} {r} {after} w q l h p t k =
     record {
       bad = λ z. ap limited (line-off w q l h) ∙ go (readLine (between from e bytes)) refl (readLines (parts 10 (drop (e + 1) bytes)));
       good = λ z. absurd (let z : ⊥ = omega arith in z);
@@ -146,24 +150,38 @@ endsOf-snoc n (p ∷ ps) x =
     let k : n + length p + length (flatten ps) + length x ≡ n + length (p ++ flatten ps) + length x = rw length-append (omega arith) in
     ap (λ (l : List ℕ). (n + length p) ∷ l) (endsOf-snoc (n + length p) ps x ∙ ap (λ (m : ℕ). endsOf (n + length p) ps ++ (m ∷ [])) k)
 
+pub length-endsOf : (n : ℕ) (ps : List (List ℤ)) → length (endsOf n ps) ≡ length ps
+unfolding endsOf
+length-endsOf n [] = refl
+length-endsOf n (p ∷ ps) = ap suc (length-endsOf (n + length p) ps)
+
+-- the array of the ends was long enough
+ends-room : {bytes : List ℕ} {values₀ values : List ℤ} {ends₀ ends : List ℕ} {from count filled : ℕ}
+    → Reading bytes values₀ ends₀ values ends from count filled → count < 1023 → count < length ends₀
+ends-room {bytes} {values₀} {values} {ends₀} {ends} {from} {count} {filled} w h =
+    let e : length ends ≡ length (endsOf 0 (w .ps)) + length (drop count ends₀) =
+    ap length (w .lie .lieEnds) ∙ length-append (endsOf 0 (w .ps)) (drop count ends₀) in
+    omega (arith, e, length-endsOf 0 (w .ps), w .lie .counted, w .sizedEnds, length-drop count ends₀)
+
 -- a pattern's line: there is a place left for where it ends
-pub lines-room : {bytes : List ℕ} {values : List ℤ} {ends : List ℕ} {from count filled e f : ℕ} {after : List ℤ}
-    → Reading bytes values ends from count filled → e < length bytes → from < e
+pub lines-room : {bytes : List ℕ} {values₀ values : List ℤ} {ends₀ ends : List ℕ} {from count filled e f : ℕ} {after : List ℤ}
+    → Reading bytes values₀ ends₀ values ends from count filled → e < length bytes → from < e
     → Put (readLine (between from e bytes)) filled values after f → f ≤ 1023 → count < f
-lines-room {bytes} {values} {ends} {from} {count} {filled} {e} {f} {after} w l h p t =
+lines-room {bytes} {values₀} {values} {ends₀} {ends} {from} {count} {filled} {e} {f} {after} w l h p t =
     let g = p .good (omega (arith, w .sizedValues)) in
     let s = line-some (between from e bytes) (g .0) (omega (arith, length-between from e bytes (omega arith) (omega arith))) (g .1) in
     omega (arith, g .2, w .few, s)
 
-pub lines-more : {bytes : List ℕ} {values : List ℤ} {ends : List ℕ} {from count filled e f : ℕ} {after : List ℤ}
-    → Reading bytes values ends from count filled → e ≡ from + upTo 10 (drop from bytes) → e < length bytes → from < e
+pub lines-more : {bytes : List ℕ} {values₀ values : List ℤ} {ends₀ ends : List ℕ} {from count filled e f : ℕ} {after : List ℤ}
+    → Reading bytes values₀ ends₀ values ends from count filled → e ≡ from + upTo 10 (drop from bytes) → e < length bytes → from < e
     → Put (readLine (between from e bytes)) filled values after f → length after ≡ length values → f ≤ 1023
-    → Reading bytes after (set ends count f) (e + 1) (count + 1) f
+    → Reading bytes values₀ ends₀ after (set ends count f) (e + 1) (count + 1) f
 unfolding flatten
-lines-more {bytes} {values} {ends} {from} {count} {filled} {e} {f} {after} w q l h p u t =
+lines-more {bytes} {values₀} {values} {ends₀} {ends} {from} {count} {filled} {e} {f} {after} w q l h p u t =
     let g = p .good (omega (arith, w .sizedValues)) in
     let x = g .0 in
     let room = lines-room w l h p t in
+    let counted : length (endsOf 0 (w .ps)) ≡ count = length-endsOf 0 (w .ps) ∙ sym (w .lie .counted) in
     let fl : flatten (w .ps ++ (x ∷ [])) ≡ flatten (w .ps) ++ x =
     flatten-append (w .ps) (x ∷ []) ∙ ap (λ (m : List ℤ). flatten (w .ps) ++ m) (append-nil x) in
     let fx : f ≡ length (flatten (w .ps)) + length x = omega (arith, g .2, w .filledBy) in
@@ -177,15 +195,14 @@ lines-more {bytes} {values} {ends} {from} {count} {filled} {e} {f} {after} w q l
         counted = omega (arith, w .lie .counted, length-snoc (w .ps) x);
         fit = omega arith;
         lieValues =
-            ap (λ (k : ℕ). take k after) (sym ff)
-            ∙ g .3
-            ∙ ap (λ (m : List ℤ). m ++ x) (ap (λ (k : ℕ). take k values) (w .filledBy) ∙ w .lie .lieValues)
-            ∙ sym fl;
+            g .3
+            ∙ write-behind (flatten (w .ps)) x values₀ values filled f (w .filledBy) (g .2) (w .lie .lieValues)
+            ∙ ap₂ (λ (m : List ℤ) (k : ℕ). m ++ drop k values₀) (sym fl) ff;
         lieEnds =
-            ap (λ (k : ℕ). take k (set ends count f)) (add-one count)
-            ∙ take-suc-set ends count f (omega (arith, w .sizedEnds))
-            ∙ ap₂ (λ (m : List ℕ) (k : ℕ). m ++ (k ∷ [])) (w .lie .lieEnds) (fx ∙ (omega arith))
-            ∙ sym (endsOf-snoc 0 (w .ps) x);
+            ap (λ (m : List ℕ). set m count f) (w .lie .lieEnds)
+            ∙ store-behind 0 (endsOf 0 (w .ps)) ends₀ count f counted (ends-room w (omega arith))
+            ∙ ap (λ (m : List ℕ). m ++ drop (count + 1) ends₀)
+            (ap (λ (k : ℕ). endsOf 0 (w .ps) ++ (k ∷ [])) (fx ∙ (omega arith)) ∙ sym (endsOf-snoc 0 (w .ps) x));
       };
       filledBy = ff;
       few = omega arith;
@@ -202,11 +219,11 @@ two-one n = go (eqb n 1) refl
     go false e = ne-eqb (suc n) 2 (λ k. eqb-false n 1 e (omega arith))
 
 -- a line that does not end, or more behind it
-pub text-over : (bytes : List ℕ) (from : ℕ) {e r : ℕ} {text : List ℤ} → from ≤ length bytes → e ≡ from + upTo 10 (drop from bytes) → e ≤ length bytes
+pub text-over : (bytes : List ℕ) (from : ℕ) {e r : ℕ} {text₀ text : List ℤ} → from ≤ length bytes → e ≡ from + upTo 10 (drop from bytes) → e ≤ length bytes
     → (e + 1 ≡ length bytes → ⊥)
-    → 32768 < r → TextRead (drop from bytes) text r
+    → 32768 < r → TextRead (drop from bytes) text₀ text r
 unfolding readLines
-text-over bytes from {e} {r} {text} h q l f k = record { bad = λ z. go (decLt e (length bytes)); good = λ z. absurd (let z : ⊥ = omega arith in z) }
+text-over bytes from {e} {r} {text₀} {text} h q l f k = record { bad = λ z. go (decLt e (length bytes)); good = λ z. absurd (let z : ⊥ = omega arith in z) }
   where
     more : readLines ([] ∷ between from e bytes ∷ parts 10 (getD bytes (e + 1) 0 ∷ drop (suc (e + 1)) bytes)) ≡ none
     more =
@@ -224,7 +241,7 @@ text-over bytes from {e} {r} {text} h q l f k = record { bad = λ z. go (decLt e
 -- the last line
 pub text-last : (bytes : List ℕ) (from : ℕ) {e r : ℕ} {text after : List ℤ} → from ≤ length bytes → length bytes ≤ 65536 → length text ≡ 32768
     → e ≡ from + upTo 10 (drop from bytes) → e + 1 ≡ length bytes
-    → Put (readLine (between from e bytes)) 0 text after r → TextRead (drop from bytes) after r
+    → Put (readLine (between from e bytes)) 0 text after r → TextRead (drop from bytes) text after r
 unfolding readLines parts
 text-last bytes from {e} {r} {text} {after} h m n q l p =
     record {
@@ -254,21 +271,21 @@ short : (bytes : List ℕ) → length bytes ≤ 65536 → readInput bytes ≡ li
 unfolding readInput
 short bytes h = rw (le-leb (length bytes) 65536 h) refl
 
-pub no-patterns : {bytes : List ℕ} {values : List ℤ} {ends : List ℕ} {count from : ℕ} → length bytes ≤ 65536
-    → PatternsRead bytes values ends count from → length bytes < from → readInput bytes ≡ none
-no-patterns {bytes} {values} {ends} {count} {from} h p l = short bytes h ∙ p .bad l
+pub no-patterns : {bytes : List ℕ} {values₀ values : List ℤ} {ends₀ ends : List ℕ} {count from : ℕ} → length bytes ≤ 65536
+    → PatternsRead bytes values₀ ends₀ values ends count from → length bytes < from → readInput bytes ≡ none
+no-patterns {bytes} {values₀} {values} {ends₀} {ends} {count} {from} h p l = short bytes h ∙ p .bad l
 
-pub no-text : {bytes : List ℕ} {values : List ℤ} {ends : List ℕ} {text : List ℤ} {count from n : ℕ} → length bytes ≤ 65536
-    → PatternsRead bytes values ends count from → from ≤ length bytes
-    → TextRead (drop from bytes) text n → 32768 < n → readInput bytes ≡ none
-no-text {bytes} {values} {ends} {text} {count} {from} {n} h p l t k =
+pub no-text : {bytes : List ℕ} {values₀ values : List ℤ} {ends₀ ends : List ℕ} {text₀ text : List ℤ} {count from n : ℕ} → length bytes ≤ 65536
+    → PatternsRead bytes values₀ ends₀ values ends count from → from ≤ length bytes
+    → TextRead (drop from bytes) text₀ text n → 32768 < n → readInput bytes ≡ none
+no-text {bytes} {values₀} {values} {ends₀} {ends} {text₀} {text} {count} {from} {n} h p l t k =
     let g = p .good l in
     short bytes h ∙ ap limited (g .2 ∙ ap (behind (g .0)) (t .bad k))
 
-pub all-read : {bytes : List ℕ} {values : List ℤ} {ends : List ℕ} {text : List ℤ} {count from n : ℕ} → length bytes ≤ 65536
-    → PatternsRead bytes values ends count from → from ≤ length bytes
-    → TextRead (drop from bytes) text n → n ≤ 32768 → IsRead bytes values ends text (Parsed.Good count n)
-all-read {bytes} {values} {ends} {text} {count} {from} {n} h p l t k =
+pub all-read : {bytes : List ℕ} {values₀ values : List ℤ} {ends₀ ends : List ℕ} {text₀ text : List ℤ} {count from n : ℕ} → length bytes ≤ 65536
+    → PatternsRead bytes values₀ ends₀ values ends count from → from ≤ length bytes
+    → TextRead (drop from bytes) text₀ text n → n ≤ 32768 → IsRead bytes values₀ ends₀ text₀ values ends text (Parsed.Good count n)
+all-read {bytes} {values₀} {values} {ends₀} {ends} {text₀} {text} {count} {from} {n} h p l t k =
     let g = p .good l in
     let x = t .good k in
     let i : Input = record { patterns = g .0; text = x .0 } in

@@ -3,3 +3,4 @@ pub mod Cutting
 pub mod Numbers
 pub mod Lines
 pub mod Inputs
+pub mod Fits

@@ -1,9 +1,9 @@
 -- LINES: numbers are read from the front of a line, one part after the other, and put behind each
 -- other.
-use Rattle.lists.proofs.Prelude.{Option·none-ne-some, _≡_, _∙_, ap, sym, refl, subst, ap₂, true, false, cond, Option, none, some, Option·some-injective, List}
-use Rattle.lists.proofs.Prelude.{[], _∷_, _++_, map, append-nil, append-assoc, ℕ, suc, _+_, _-_, _*_, _≤_, _<_, ℤ, T, leb, length, take, drop, length-append}
-use Rattle.lists.proofs.Prelude.{length-set, append-snoc, take-suc-set, add-one, decLt, arith, le-leb, lt-leb}
-use Rattle.lists.proofs.Parts.{length-snoc}
+use Rattle.lists.proofs.Prelude.{Option·none-ne-some, _≡_, _∙_, ap, sym, refl, subst, true, false, cond, Option, none, some, Option·some-injective, List, []}
+use Rattle.lists.proofs.Prelude.{_∷_, _++_, map, append-nil, append-assoc, ℕ, suc, _+_, _-_, _*_, _≤_, _<_, ℤ, pos, T, leb, length, take, drop, set}
+use Rattle.lists.proofs.Prelude.{length-append, length-set, take-append-drop, length-take-le, append-snoc, decLt, arith, le-leb, lt-leb}
+use Rattle.lists.proofs.Parts.{length-snoc, store-behind}
 use Rattle.hits_input.specs.Input.{andThen, parts, readNumber, gather, readLine}
 use Rattle.hits_input.specs.Steps.{upTo, isThere, stored, numbers, Put}
 use Rattle.hits_input.proofs.Cutting.{parts-from, parts-last, weight, weight-parts}
@@ -31,6 +31,12 @@ rest-step : (line : List ℕ) (from e : ℕ) → from ≤ length line → e ≡ 
 unfolding gather
 rest-step line from e h q = ap (λ (ps : List (List ℕ)). gather (map readNumber ps)) (parts-step line from e h q)
 
+-- ---- what a write makes of an array
+
+-- nothing is written
+write-none : {A : Type 0} (n : ℕ) (d : List A) → d ≡ take n d ++ [] ++ drop n d
+write-none {A} n d = sym (ap (λ (l : List A). l ++ drop n d) (append-nil (take n d)) ∙ take-append-drop n d)
+
 -- ---- the loop over the parts
 
 -- of the numbers of the line, those before place `from` lie in the array from place `at` on, up to
@@ -44,9 +50,9 @@ pub record Filling (line : List ℕ) (at : ℕ) (before out : List ℤ) (from to
   pub room : to ≤ length out
   -- the numbers that are read
   pub done : List ℤ
-  -- they lie from place `at` on, up to place `to`
+  -- they lie from place `at` on, up to place `to`, and the rest is as it was
   pub place : to ≡ at + length done
-  pub lies : take to out ≡ take at before ++ done
+  pub lies : out ≡ take at before ++ done ++ drop to before
   -- the line has these numbers and those of its rest
   pub rest : numbers line ≡ andThen (restOf line from) (λ xs. some (done ++ xs))
 
@@ -58,7 +64,7 @@ fill-start line at out h =
       room = h;
       done = [];
       place = omega arith;
-      lies = sym (append-nil (take at out));
+      lies = write-none at out;
       rest = rw (le-leb 0 (length line) (omega arith)) (keep (numbers line));
     }
   where
@@ -114,6 +120,12 @@ fill-more {line} {at} {before} {out} {from} {to} {e} {after} w h q m l t s = go 
     more z none = refl
     more z (some ys) = ap some (sym (append-snoc (w .done) z ys))
 
+    long : length (take at before ++ w .done) ≡ to
+    long =
+        length-append (take at before) (w .done)
+        ∙ ap (λ (k : ℕ). k + length (w .done)) (length-take-le at before (omega (arith, w .place, w .room, w .sized)))
+        ∙ sym (w .place)
+
     go : (o : Option ℤ) → readNumber (take (e - from) (drop from line)) ≡ o → isThere o ≡ true → after ≡ stored o to out
         → Filling line at before after (e + 1) (to + 1)
     go none p a b = absurd (subst T (sym a) tt)
@@ -125,10 +137,10 @@ fill-more {line} {at} {before} {out} {from} {to} {e} {after} w h q m l t s = go 
           done = w .done ++ (z ∷ []);
           place = omega (arith, length-snoc (w .done) z, w .place);
           lies =
-              ap₂ take (add-one to) b
-              ∙ take-suc-set out to z l
-              ∙ ap (λ (x : List ℤ). x ++ (z ∷ [])) (w .lies)
-              ∙ append-assoc (take at before) (w .done) (z ∷ []);
+              b
+              ∙ ap (λ (x : List ℤ). set x to z) (w .lies)
+              ∙ store-behind (pos 0) (take at before ++ w .done) before to z long (omega (arith, w .sized))
+              ∙ ap (λ (x : List ℤ). x ++ drop (to + 1) before) (append-assoc (take at before) (w .done) (z ∷ []));
           rest = w .rest ∙ (rw (rest-step line from e h q, p) (more z (restOf line (e + 1))));
         }
 
@@ -144,7 +156,7 @@ fill-end {line} {at} {before} {out} {from} {to} w h =
 
 pub line-empty : (line : List ℕ) (at : ℕ) (out : List ℤ) → at ≤ length out → length line ≡ 0 → Put (readLine line) at out out at
 unfolding readLine
-line-empty [] at out h e = record { bad = λ k. absurd (let z : ⊥ = omega arith in z); good = λ k. ([], refl, omega arith, sym (append-nil (take at out))) }
+line-empty [] at out h e = record { bad = λ k. absurd (let z : ⊥ = omega arith in z); good = λ k. ([], refl, omega arith, write-none at out) }
 line-empty (b ∷ bs) at out h e = absurd (let z : ⊥ = omega arith in z)
 
 pub line-numbers : (line : List ℕ) → (length line ≡ 0 → ⊥) → readLine line ≡ numbers line

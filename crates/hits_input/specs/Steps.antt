@@ -37,11 +37,11 @@ stored (some z) at out = set out at z
 abbrev pub numbers : List ℕ → Option (List ℤ)
 numbers bs = gather (map readNumber (parts 32 bs))
 
--- the numbers o, if they are there and have room, lie from a place on, and r is the place behind
--- them; else r is behind the array
+-- the numbers o, if they are there and have room, lie from a place on, r is the place behind them,
+-- and the rest is as before; else r is behind the array
 pub record Put (o : Option (List ℤ)) (at : ℕ) (before after : List ℤ) (r : ℕ) : Type 0 where
   pub bad : length before < r → (xs : List ℤ) → o ≡ some xs → length before < at + length xs
-  pub good : r ≤ length before → (xs : List ℤ) × (o ≡ some xs) × (r ≡ at + length xs) × (take r after ≡ take at before ++ xs)
+  pub good : r ≤ length before → (xs : List ℤ) × (o ≡ some xs) × (r ≡ at + length xs) × (after ≡ take at before ++ xs ++ drop r before)
 
 -- the input with patterns before its own
 abbrev pub behind : List (List ℤ) → Option Input → Option Input
@@ -51,21 +51,23 @@ behind ps o = andThen o (λ i. some (record { patterns = ps ++ i .patterns; text
 abbrev pub limited : Option Input → Option Input
 limited o = andThen o (λ i. when (leb (length (flatten (i .patterns))) 1023) (some i))
 
--- these patterns lie in the arrays
-pub record Lie (ps : List (List ℤ)) (values : List ℤ) (ends : List ℕ) (count : ℕ) : Type 0 where
+-- these patterns lie at the front of the arrays, and behind them is what was there before
+pub record Lie (ps : List (List ℤ)) (values₀ : List ℤ) (ends₀ : List ℕ) (values : List ℤ) (ends : List ℕ) (count : ℕ) : Type 0 where
   pub counted : count ≡ length ps
   pub fit : length (flatten ps) ≤ 1023
-  pub lieValues : take (length (flatten ps)) values ≡ flatten ps
-  pub lieEnds : take count ends ≡ endsOf 0 ps
+  pub lieValues : values ≡ flatten ps ++ drop (length (flatten ps)) values₀
+  pub lieEnds : ends ≡ endsOf 0 ps ++ drop count ends₀
 
 -- the pattern lines are read, and an empty line ends before a place; or the place is behind the
 -- bytes and there is no input
-pub record PatternsRead (bytes : List ℕ) (values : List ℤ) (ends : List ℕ) (count from : ℕ) : Type 0 where
+pub record PatternsRead (bytes : List ℕ) (values₀ : List ℤ) (ends₀ : List ℕ) (values : List ℤ) (ends : List ℕ) (count from : ℕ) : Type 0 where
   pub bad : length bytes < from → limited (readLines (parts 10 bytes)) ≡ none
   pub good : from ≤ length bytes
-      → (ps : List (List ℤ)) × Lie ps values ends count × (readLines (parts 10 bytes) ≡ behind ps (readLines ([] ∷ parts 10 (drop from bytes))))
+      → (ps : List (List ℤ)) × Lie ps values₀ ends₀ values ends count
+      × (readLines (parts 10 bytes) ≡ behind ps (readLines ([] ∷ parts 10 (drop from bytes))))
 
--- the text is read from the bytes behind the empty line
-pub record TextRead (bytes : List ℕ) (text : List ℤ) (n : ℕ) : Type 0 where
+-- the text is read from the bytes behind the empty line, and behind it the array is as before
+pub record TextRead (bytes : List ℕ) (text₀ text : List ℤ) (n : ℕ) : Type 0 where
   pub bad : 32768 < n → readLines ([] ∷ parts 10 bytes) ≡ none
-  pub good : n ≤ 32768 → (xs : List ℤ) × (readLines ([] ∷ parts 10 bytes) ≡ some (record { patterns = []; text = xs })) × (n ≡ length xs) × (take n text ≡ xs)
+  pub good : n ≤ 32768
+      → (xs : List ℤ) × (readLines ([] ∷ parts 10 bytes) ≡ some (record { patterns = []; text = xs })) × (n ≡ length xs) × (text ≡ xs ++ drop n text₀)

@@ -158,7 +158,8 @@ fn read_line(line: &[u8], out: &mut [i32], at: usize) -> usize
 // The pattern lines up to the empty line.
 fn read_patterns(bytes: &[u8], values: &mut [i32], ends: &mut [u32]) -> Patterns
     requires { ⌜ (length (now bytes) ≤ 65536) × (length (now values) ≡ 1023) × (length (now ends) ≡ 1023) ⌝ }
-    ensures { λ r. ⌜ PatternsRead (now (bytes .entry)) (now (values .exit)) (now (ends .exit)) (r .count) (r .from) ⌝ }
+    ensures { λ r. ⌜ PatternsRead (now (bytes .entry)) (now (values .entry)) (now (ends .entry))
+        (now (values .exit)) (now (ends .exit)) (r .count) (r .from) ⌝ }
 {
     let n = bytes.len();
     let mut start = 0;
@@ -189,7 +190,7 @@ fn read_patterns(bytes: &[u8], values: &mut [i32], ends: &mut [u32]) -> Patterns
 // where it is bad.
 fn read_text(bytes: &[u8], from: usize, text: &mut [i32]) -> usize
     requires { ⌜ (from ≤ length (now bytes)) × (length (now bytes) ≤ 65536) × (length (now text) ≡ 32768) ⌝ }
-    ensures { λ r. ⌜ TextRead (drop from (now (bytes .entry))) (now (text .exit)) r ⌝ }
+    ensures { λ r. ⌜ TextRead (drop from (now (bytes .entry))) (now (text .entry)) (now (text .exit)) r ⌝ }
 {
     let end = end_of(bytes, from, 10);
     if end + 1 != bytes.len() {
@@ -198,14 +199,16 @@ fn read_text(bytes: &[u8], from: usize, text: &mut [i32]) -> usize
     read_line(&bytes[from..end], text, 0)
 }
 
-// The input that the bytes hold, read into the arrays.
+// The input that the bytes hold, read into the arrays, which keep what they held behind it. Where
+// there is none, the arrays are left free.
 pub fn read_input(
     bytes: &[u8],
     values: &mut [i32; 1023],
     ends: &mut [u32; 1023],
     text: &mut [i32; 32768],
 ) -> Parsed
-    ensures { λ r. ⌜ IsRead (now (bytes .entry)) (now (values .exit)) (now (ends .exit)) (now (text .exit)) r ⌝ }
+    ensures { λ r. ⌜ IsRead (now (bytes .entry)) (now (values .entry)) (now (ends .entry)) (now (text .entry))
+        (now (values .exit)) (now (ends .exit)) (now (text .exit)) r ⌝ }
 {
     if bytes.len() > 65536 {
         return Parsed::Bad;

@@ -1,7 +1,7 @@
 -- Laws of the lines of hits, and of a buffer that is written from the front.
-use Rattle.lists.proofs.Prelude.{_≡_, _∙_, ap, sym, refl, List, [], _∷_, _++_, map, append-nil, append-assoc, flatten, ℕ, suc, _+_, _-_, length, getD, take}
-use Rattle.lists.proofs.Prelude.{drop, length-append, append-snoc, arith, tabulate}
-use Rattle.lists.proofs.Parts.{map-append, paste}
+use Rattle.lists.proofs.Prelude.{_≡_, _∙_, ap, sym, refl, List, [], _∷_, _++_, map, append-nil, append-assoc, flatten, ℕ, suc, _+_, _-_, _≤_, _<_, length, getD}
+use Rattle.lists.proofs.Prelude.{take, drop, set, length-append, length-take-le, take-suc, append-snoc, add-one, arith, tabulate}
+use Rattle.lists.proofs.Parts.{map-append, put-behind, paste}
 use Rattle.lists.proofs.Rows.{flatten-append}
 use Rattle.pattern_set.specs.PatternSet.{PatternSet}
 use Rattle.hits_output.specs.Output.{digits, line, hitLine, hitLines, hitIn, hitsIn}
@@ -22,6 +22,24 @@ paste-behind : (f v d w y : List ℕ) (a : ℕ) → w ≡ f ++ drop (length f) d
 paste-behind f v d w y a e h q =
     paste f v d w y a (length v) (length w - a) (sym h) refl (e ∙ ap (λ (n : ℕ). f ++ drop n d) (sym h)) refl q
     ∙ ap (λ (n : ℕ). (f ++ v) ++ drop n d) (ap (λ (n : ℕ). n + length v) h ∙ sym (length-append f v))
+
+-- one byte more of those that are copied
+pub copied-more : (b d w : List ℕ) (i : ℕ) → i < length b → length b ≤ length d → w ≡ take i b ++ drop (length (take i b)) d
+    → set w i (getD b i 0) ≡ take (i + 1) b ++ drop (length (take (i + 1) b)) d
+copied-more b d w i h l e =
+    let n : length (take i b) ≡ i = length-take-le i b (omega arith) in
+    let s : take i b ++ (getD b i 0 ∷ []) ≡ take (i + 1) b = sym (ap (λ (k : ℕ). take k b) (add-one i) ∙ take-suc b i 0 h) in
+    ap (λ (v : List ℕ). set v i (getD b i 0)) e
+    ∙ put-behind (take i b) d i (getD b i 0) (sym n) (omega arith)
+    ∙ ap (λ (v : List ℕ). v ++ drop (length v) d) s
+
+-- a number behind other bytes, with a newline behind it
+pub number-behind : (f : List ℕ) (n a b : ℕ) (d w y : List ℕ) → a ≡ length f → w ≡ f ++ drop (length f) d → b ≡ length (digits n ++ (10 ∷ []))
+    → y ≡ (digits n ++ (10 ∷ [])) ++ drop (length (digits n ++ (10 ∷ []))) (partFrom a w)
+    → (a + b ≡ length (f ++ (digits n ++ (10 ∷ []))))
+    × (putBack a w y ≡ (f ++ (digits n ++ (10 ∷ []))) ++ drop (length (f ++ (digits n ++ (10 ∷ [])))) d)
+number-behind f n a b d w y la lw lb ly =
+    (omega (arith, la, lb, length-append f (digits n ++ (10 ∷ []))), paste-behind f (digits n ++ (10 ∷ [])) d w y a lw la ly)
 
 -- ---- a line
 

@@ -30,3 +30,21 @@ hitIn ws i = (getD ws (2 * i) 0, getD ws (2 * i + 1) 0)
 -- the first n hits that the words hold
 unfoldable pub hitsIn : List ℕ → ℕ → List (ℕ × ℕ)
 hitsIn ws n = tabulate n (hitIn ws)
+
+-- ---- the other lines
+
+-- `end shape length`
+abbrev pub header : List ℕ
+header = 101 ∷ 110 ∷ 100 ∷ 32 ∷ 115 ∷ 104 ∷ 97 ∷ 112 ∷ 101 ∷ 32 ∷ 108 ∷ 101 ∷ 110 ∷ 103 ∷ 116 ∷ 104 ∷ 10 ∷ []
+
+-- `trials` and the number of attempts
+unfoldable pub closingLine : ℕ → List ℕ
+closingLine n = (116 ∷ 114 ∷ 105 ∷ 97 ∷ 108 ∷ 115 ∷ 32 ∷ []) ++ (digits n ++ (10 ∷ []))
+
+-- `refused` and the number of the refusal
+unfoldable pub refusedLine : ℕ → List ℕ
+refusedLine n = (114 ∷ 101 ∷ 102 ∷ 117 ∷ 115 ∷ 101 ∷ 100 ∷ 32 ∷ []) ++ (digits n ++ (10 ∷ []))
+
+-- `bad input`
+abbrev pub badLine : List ℕ
+badLine = 98 ∷ 97 ∷ 100 ∷ 32 ∷ 105 ∷ 110 ∷ 112 ∷ 117 ∷ 116 ∷ 10 ∷ []

@@ -2,7 +2,7 @@
 // Program `hits`.
 ghost use Rattle.lists.specs.Prelude.{_≡_, [], _∷_, _++_, ℕ, _+_, _*_, _≤_, _<_, length, getD, drop};
 ghost use Rattle.pattern_set.specs.PatternSet.{patternsOf, IsSet};
-ghost use Rattle.hits_output.specs.Output.{digits, line, hitIn, hitsIn, hitLine, hitLines};
+ghost use Rattle.hits_output.specs.Output.{digits, line, hitIn, hitsIn, hitLine, hitLines, header, closingLine, refusedLine, badLine};
 
 // How many decimal digits v has.
 fn count_digits(v: u64) -> usize
@@ -90,4 +90,59 @@ pub fn write_lines(set: &[u32], hits: &[u32], count: usize, out: &mut [u8]) -> u
         i += 1;
     }
     at
+}
+
+// ---- the other lines
+
+// Bytes to the front of the buffer; how many they are.
+fn write_bytes(bytes: &[u8], out: &mut [u8]) -> usize
+    requires { ⌜ length (now bytes) ≤ length (now out) ⌝ }
+    ensures { λ r. ⌜ r ≡ length (now (bytes .entry)) ⌝ }
+    ensures { λ _. ⌜ now (out .exit) ≡ now (bytes .entry) ++ drop (length (now (bytes .entry))) (now (out .entry)) ⌝ }
+{
+    let n = bytes.len();
+    let mut i = 0;
+    while i < n {
+        out[i] = bytes[i];
+        i += 1;
+    }
+    n
+}
+
+// The line over the hits to the front of the buffer; how many bytes it has.
+pub fn write_header(out: &mut [u8]) -> usize
+    requires { ⌜ 63 ≤ length (now out) ⌝ }
+    ensures { λ r. ⌜ (r ≡ length header) × (r ≤ 63) ⌝ }
+    ensures { λ _. ⌜ now (out .exit) ≡ header ++ drop (length header) (now (out .entry)) ⌝ }
+{
+    write_bytes(b"end shape length\n", out)
+}
+
+// The line of an input that is none to the front of the buffer; how many bytes it has.
+pub fn write_bad(out: &mut [u8]) -> usize
+    requires { ⌜ 63 ≤ length (now out) ⌝ }
+    ensures { λ r. ⌜ (r ≡ length badLine) × (r ≤ 63) ⌝ }
+    ensures { λ _. ⌜ now (out .exit) ≡ badLine ++ drop (length badLine) (now (out .entry)) ⌝ }
+{
+    write_bytes(b"bad input\n", out)
+}
+
+// The line of a refusal to the front of the buffer; how many bytes it has.
+pub fn write_refused(number: u64, out: &mut [u8]) -> usize
+    requires { ⌜ 63 ≤ length (now out) ⌝ }
+    ensures { λ r. ⌜ (r ≡ length (refusedLine number)) × (r ≤ 63) ⌝ }
+    ensures { λ _. ⌜ now (out .exit) ≡ refusedLine number ++ drop (length (refusedLine number)) (now (out .entry)) ⌝ }
+{
+    let a = write_bytes(b"refused ", out);
+    a + write_field(number, 10, &mut out[a..])
+}
+
+// The line of the attempts to the front of the buffer; how many bytes it has.
+pub fn write_closing(attempts: u64, out: &mut [u8]) -> usize
+    requires { ⌜ 63 ≤ length (now out) ⌝ }
+    ensures { λ r. ⌜ (r ≡ length (closingLine attempts)) × (r ≤ 63) ⌝ }
+    ensures { λ _. ⌜ now (out .exit) ≡ closingLine attempts ++ drop (length (closingLine attempts)) (now (out .entry)) ⌝ }
+{
+    let a = write_bytes(b"trials ", out);
+    a + write_field(attempts, 10, &mut out[a..])
 }

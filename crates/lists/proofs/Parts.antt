@@ -3,7 +3,7 @@
 use Rattle.lists.proofs.Prelude.{set-split, set-at, append-snoc, drop-cons, drop-at, zero, suc, _<_, _-_, set, sub-one, take-suc, length-take-le}
 use Rattle.lists.proofs.Prelude.{getD-append-add, getD-drop, take-append-drop, getD, _≡_, _∙_, ap, sym, refl, ap₂, List, [], _∷_, _++_, map, append-nil}
 use Rattle.lists.proofs.Prelude.{append-assoc, ℕ, _+_, _≤_, length, take, drop, length-append, length-drop, drop-of-length-le, getD-take, take-all}
-use Rattle.lists.proofs.Prelude.{take-at, drop-drop, take-add, drop-append-le, arith, lastOf}
+use Rattle.lists.proofs.Prelude.{take-at, drop-drop, take-add, drop-append-le, take-append-seam, drop-append-add, add-one, arith, lastOf}
 
 -- ---- fronts
 
@@ -58,13 +58,31 @@ drop-one-map f (x ∷ xs) = refl
 pub drop-set : (out : List ℕ) (i x : ℕ) → i < length out → drop i (set out i x) ≡ x ∷ drop (suc i) out
 drop-set out i x h = ap (drop i) (set-split out i x h) ∙ drop-at (take i out) (x ∷ drop (suc i) out) i (length-take-le i out (omega arith))
 
--- a byte is stored behind f
+-- an element x is stored behind f, which fills the array d up to place n
+pub store-behind : {A : Type 0} (a : A) (f d : List A) (n : ℕ) (x : A) → length f ≡ n → n < length d
+    → set (f ++ drop n d) n x ≡ f ++ (x ∷ []) ++ drop (n + 1) d
+store-behind {A} a f d n x e h =
+    ap (λ (l : List A). set (f ++ l) n x) (drop-cons d n a h)
+    ∙ set-at f (getD d n a) (drop (suc n) d) x n e
+    ∙ sym (append-snoc f x (drop (suc n) d))
+    ∙ ap (λ (k : ℕ). f ++ (x ∷ []) ++ drop k d) (sym (add-one n))
+
+-- a list x is put behind f, which fills the array d up to place a: w
+pub write-behind : {A : Type 0} (f x d w : List A) (a b : ℕ) → a ≡ length f → b ≡ a + length x → w ≡ f ++ drop (length f) d
+    → take a w ++ x ++ drop b w ≡ f ++ x ++ drop b d
+write-behind {A} f x d w a b p q e =
+    let k : b ≡ length f + length x = omega arith in
+    let front : take a w ≡ f = ap₂ take p e ∙ take-append-seam f (drop (length f) d) in
+    let rest : drop b w ≡ drop b d =
+    ap₂ drop k e ∙ drop-append-add f (drop (length f) d) (length x) ∙ drop-drop (length x) (length f) d ∙ ap (λ (n : ℕ). drop n d) (sym k) in
+    ap₂ (λ (l r : List A). l ++ x ++ r) front rest
+
+-- an element stored behind f, where its place is told by the length of f
 pub put-behind : (f d : List ℕ) (n x : ℕ) → n ≡ length f → n < length d → set (f ++ drop (length f) d) n x ≡ (f ++ (x ∷ [])) ++ drop (length (f ++ (x ∷ []))) d
 put-behind f d n x e h =
-    ap (λ (l : List ℕ). set (f ++ l) n x) (drop-cons d (length f) 0 (omega arith))
-    ∙ set-at f (getD d (length f) 0) (drop (suc (length f)) d) x n (sym e)
-    ∙ sym (append-snoc f x (drop (suc (length f)) d))
-    ∙ ap (λ (k : ℕ). (f ++ (x ∷ [])) ++ drop k d) (sym (length-snoc f x))
+    ap (λ (k : ℕ). set (f ++ drop k d) n x) (sym e)
+    ∙ store-behind 0 f d n x (sym e) h
+    ∙ ap (λ (k : ℕ). (f ++ (x ∷ [])) ++ drop k d) (let l : n + 1 ≡ length (f ++ (x ∷ [])) = omega (arith, e, length-snoc f x) in l)
 
 -- ---- an array o that is written from its end to its front, to become f
 

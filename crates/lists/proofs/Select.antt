@@ -3,7 +3,7 @@
 use Rattle.lists.proofs.Prelude.{_≡_, _∙_, ap, sym, refl, subst, ap₂, inl, inr, _⊎_, _↔_, Bool, true, false, cond, _&&_, none, List, [], _∷_, _++_, map}
 use Rattle.lists.proofs.Prelude.{append-nil, List·Memᴰ, List·Memᴰ·head, List·Memᴰ·tail, List·Memᴰ·not-nil, List·Memᴰ·cases-cons, ℕ, zero, suc, _+_, _≤_}
 use Rattle.lists.proofs.Prelude.{_<_, T, length, getD, take, drop, arith, select}
-use Rattle.lists.proofs.Tests.{T-true}
+use Rattle.lists.proofs.Tests.{T-true, true-T}
 use Rattle.lists.proofs.Members.{mem-getD}
 
 -- ---- who is selected
@@ -44,6 +44,13 @@ select-empty {A} test (x ∷ xs) f = go (test x) refl (select-empty test xs (λ 
     go : (b : Bool) → test x ≡ b → select test xs ≡ [] → cond b (x ∷ select test xs) (select test xs) ≡ []
     go true e ih = absurd (f x (List·Memᴰ·head refl) (T-true (test x) e))
     go false e ih = ih
+
+-- all pass
+pub select-all : {A : Type 0} (test : A → Bool) (xs : List A) → ((a : A) → List·Memᴰ a xs → T (test a)) → select test xs ≡ xs
+unfolding select
+select-all test [] h = refl
+select-all {A} test (x ∷ xs) h =
+    rw (true-T (test x) (h x (List·Memᴰ·head refl))) (ap (λ (ys : List A). x ∷ ys) (select-all test xs (λ a m. h a (List·Memᴰ·tail m))))
 
 -- tests that agree on the list select the same
 pub select-ext : {A : Type 0} (s t : A → Bool) (xs : List A) → ((a : A) → List·Memᴰ a xs → s a ≡ t a) → select s xs ≡ select t xs

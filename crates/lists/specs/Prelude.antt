@@ -1,14 +1,9 @@
 -- What all definitions are written with: the library's symbols, under their own names and with
 -- their own meaning, and a few functions on lists.
-pub use mathlib.Core.Path.{_≡_}
-pub use mathlib.Core.Bool.{Bool, true, false, cond, not, _&&_, _||_}
-pub use mathlib.Core.Option.{Option, none, some}
-pub use mathlib.Core.List.{List, [], _∷_, _++_, map, flatten, foldr}
+pub use mathlib.Core.{Path.{_≡_}, Logic.{_⊎_, _↔_}, Bool.{Bool, true, false, cond, not, _&&_, _||_}, Option.{Option, none, some}}
+pub use mathlib.Core.List.{List, [], _∷_, _++_, map, flatten, foldr, List·Memᴰ}
 pub use Prim.Native.Nat.{ℕ, zero, suc, pred, min, _+_, _-_, _*_, _/_, _%_, _^_, _≤_, _<_}
-pub use lib.Dec.{T, eqb, leb, ltb}
-pub use lib.IntN.{ℤ, pos}
-pub use lib.Signed.{leZ, ltZ, _≤ℤ_}
-pub use lib.ListN.{length, getD, take, drop, set, replicate}
+pub use lib.{Dec.{T, eqb, leb, ltb}, IntN.{ℤ, pos}, Signed.{leZ, ltZ, _≤ℤ_}, ListN.{length, getD, take, drop, set, replicate}}
 
 -- f 0, f 1, .., f (n - 1)
 unfoldable pub tabulate : {A : Type 0} → ℕ → (ℕ → A) → List A

@@ -2,8 +2,7 @@
 -- and is as long as the pattern has the pattern's tree.
 use Rattle.lists.proofs.Prelude.{_≡_, _∙_, ap, sym, refl, subst, inl, inr, _⊎_, _↔_, Bool, true, false, cond, List, [], _∷_, _++_, List·Memᴰ, List·Memᴰ·head}
 use Rattle.lists.proofs.Prelude.{List·Memᴰ·tail, List·Memᴰ·not-nil, List·Memᴰ·cases-cons, List·Memᴰ·append-cases, Memᴰ·append-left, Memᴰ·append-right}
-use Rattle.lists.proofs.Prelude.{Memᴰ·cast, ℕ, zero, suc, pred, _+_, _≤_, _<_, ℤ, T, length, getD, take, length-take, add-zero, zero-add, decLt, arith, lastOf}
-use Rattle.lists.proofs.Prelude.{lastBelow}
+use Rattle.lists.proofs.Prelude.{Memᴰ·cast, ℕ, zero, suc, pred, _+_, _<_, ℤ, T, length, getD, take, add-zero, zero-add, decLt, arith, lastOf, lastBelow}
 use Rattle.lists.proofs.Parts.{length-lastOf}
 use Rattle.lists.proofs.Tests.{T-true}
 use Rattle.lists.proofs.Members.{mem-map}
@@ -13,6 +12,7 @@ use Rattle.cartesian.proofs.HasTree.{equal-tree}
 use Rattle.cartesian.proofs.Matching.{sameTree-eq, eq-sameTree}
 use Rattle.pattern_set.specs.PatternSet.{PatternSet}
 use Rattle.matching.specs.Matching.{hasTree, numbersFrom, endHits, lastHits, hitsAt, hits}
+use Rattle.matching.specs.HitList.{EndsWith}
 use Rattle.matching.proofs.Sizes.{hasTree-length}
 
 one-tree : (x : ℤ) → tree (x ∷ []) ≡ node leaf leaf
@@ -93,10 +93,6 @@ mem-endHits ps text (suc n) j m h d = go (decLt m n) (mem-endHits ps text n j m)
         let e : m ≡ n = omega arith in
         Memᴰ·append-left (endHits ps text n) (subst (λ (k : ℕ). List·Memᴰ j (numbersFrom 0 (lastOf (suc k) text) ps)) e d)
 
--- a pattern with the tree of the text's last values, as many as it has itself
-abbrev pub EndsWith : List ℤ → List ℕ → Type 0
-EndsWith text p = (0 < length p) × (length p ≤ length text) × (tree (lastOf (length p) text) ≡ treeOf p)
-
 pub lastHits-iff : (ps : PatternSet) (text : List ℤ) (j : ℕ) → List·Memᴰ j (lastHits ps text) ↔ ((j < length ps) × EndsWith text (getD ps j []))
 unfolding hasTree
 lastHits-iff ps text j = (from, to)
@@ -127,17 +123,11 @@ lastHits-iff ps text j = (from, to)
         (Memᴰ·cast (sym (zero-add j)) (mem-numbersFrom 0 (lastOf (suc (pred (length (getD ps j [])))) text) ps j h t))
 
 pub hits-iff : (ps : PatternSet) (text : List ℤ) (p j : ℕ)
-    → List·Memᴰ (p, j) (hits ps text) ↔ ((p < length text) × (j < length ps) × (0 < length (getD ps j [])) × (length (getD ps j []) ≤ suc p) ×
-    (tree (lastOf (length (getD ps j [])) (take (suc p) text)) ≡ treeOf (getD ps j [])))
+    → List·Memᴰ (p, j) (hits ps text) ↔ ((p < length text) × (j < length ps) × EndsWith (take (suc p) text) (getD ps j []))
 unfolding hits hitsAt
 hits-iff ps text p j = (from, to)
   where
-    end-length : p < length text → length (take (suc p) text) ≡ suc p
-    end-length h = simp length-take (omega arith)
-
-    from : List·Memᴰ (p, j) (hits ps text)
-        → (p < length text) × (j < length ps) × (0 < length (getD ps j [])) × (length (getD ps j []) ≤ suc p) ×
-        (tree (lastOf (length (getD ps j [])) (take (suc p) text)) ≡ treeOf (getD ps j []))
+    from : List·Memᴰ (p, j) (hits ps text) → (p < length text) × (j < length ps) × EndsWith (take (suc p) text) (getD ps j [])
     from d =
         let r = mem-flatten-tabulate (length text) (hitsAt ps text) (p, j) .0 d in
         let s = mem-map {B = ℕ × ℕ} (λ i. (r .0, i)) (lastHits ps (take (suc (r .0)) text)) (p, j) .0 (r .2) in
@@ -145,14 +135,11 @@ hits-iff ps text p j = (from, to)
         let ej : j ≡ s .0 = ap (λ (h : ℕ × ℕ). h .1) (s .2) in
         let m : List·Memᴰ j (lastHits ps (take (suc p) text)) =
         Memᴰ·cast ej (subst (λ (i : ℕ). List·Memᴰ (s .0) (lastHits ps (take (suc i) text))) (sym ep) (s .1)) in
-        let h : p < length text = omega (arith, ep, r .1) in
         let f = lastHits-iff ps (take (suc p) text) j .0 m in
-        (h, f .0, f .1 .0, subst (λ (n : ℕ). length (getD ps j []) ≤ n) (end-length h) (f .1 .1), f .1 .2)
+        (omega (arith, ep, r .1), f .0, f .1)
 
-    to : (p < length text) × (j < length ps) × (0 < length (getD ps j [])) × (length (getD ps j []) ≤ suc p) ×
-        (tree (lastOf (length (getD ps j [])) (take (suc p) text)) ≡ treeOf (getD ps j []))
-        → List·Memᴰ (p, j) (hits ps text)
-    to (h, k, nonempty, fits, e) =
-        let m = lastHits-iff ps (take (suc p) text) j .1 (k, (nonempty, subst (λ (n : ℕ). length (getD ps j []) ≤ n) (sym (end-length h)) fits, e)) in
+    to : (p < length text) × (j < length ps) × EndsWith (take (suc p) text) (getD ps j []) → List·Memᴰ (p, j) (hits ps text)
+    to (h, k, e) =
+        let m = lastHits-iff ps (take (suc p) text) j .1 (k, e) in
         mem-flatten-tabulate (length text) (hitsAt ps text) (p, j) .1
         (p, h, mem-map {B = ℕ × ℕ} (λ i. (p, i)) (lastHits ps (take (suc p) text)) (p, j) .1 (j, m, refl))

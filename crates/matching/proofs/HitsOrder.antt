@@ -6,13 +6,26 @@ use Rattle.lists.proofs.Prelude.{List·Memᴰ·tail, List·Memᴰ·append-cases
 use Rattle.lists.proofs.Prelude.{zero-add, arith, lastOf, tabulate}
 use Rattle.lists.proofs.Parts.{length-lastOf, map-append}
 use Rattle.lists.proofs.Tests.{T-true}
-use Rattle.lists.proofs.Members.{mem-map}
+use Rattle.lists.proofs.Members.{getD-mem, mem-map}
 use Rattle.lists.proofs.Rows.{flatten-tabulate, mem-flatten-tabulate}
 use Rattle.pattern_set.specs.PatternSet.{PatternSet}
 use Rattle.matching.specs.Matching.{hasTree, numbersFrom, endHits, lastHits, hitsAt, hits}
-use Rattle.matching.specs.HitOrder.{patternLength, Before, Ordered}
-use Rattle.matching.proofs.Sizes.{hasTree-length}
-use Rattle.matching.proofs.HitsIff.{numbersFrom-mem, endHits-mem}
+use Rattle.matching.specs.HitList.{Before, IsHitList}
+use Rattle.matching.proofs.Sizes.{patternLength, hasTree-length}
+use Rattle.matching.proofs.HitsIff.{numbersFrom-mem, endHits-mem, hits-iff}
+
+-- every hit of the list comes before each later one
+unfoldable Ordered : PatternSet → List (ℕ × ℕ) → Type 0
+Ordered ps [] = Unit {0}
+Ordered ps (h ∷ hs) = ((g : ℕ × ℕ) → List·Memᴰ g hs → Before ps h g) × Ordered ps hs
+
+-- the same by places
+ordered-at : (ps : PatternSet) (hs : List (ℕ × ℕ)) → Ordered ps hs → (i k : ℕ) → i < k → k < length hs → Before ps (getD hs i (0, 0)) (getD hs k (0, 0))
+unfolding Ordered
+ordered-at ps [] o i k l m = absurd (let z : ⊥ = omega arith in z)
+ordered-at ps (h ∷ hs) o i zero l m = absurd (let z : ⊥ = omega arith in z)
+ordered-at ps (h ∷ hs) o zero (suc k) l m = o .0 (getD hs k (0, 0)) (getD-mem hs k (0, 0) (omega arith))
+ordered-at ps (h ∷ hs) o (suc i) (suc k) l m = ordered-at ps hs (o .1) i k (omega arith) (omega arith)
 
 -- two ordered lists, all of the first before all of the second
 ordered-append : (ps : PatternSet) (hs gs : List (ℕ × ℕ)) → Ordered ps hs → Ordered ps gs
@@ -121,6 +134,11 @@ hits-ordered-to ps text (suc n) =
     inl (omega (arith, hitsAt-place ps text (r .0) x (r .2), hitsAt-place ps text n y k, r .1))))
 
 -- THE ORDER OF THE HITS
-pub hits-ordered : (ps : PatternSet) (text : List ℤ) → Ordered ps (hits ps text)
+pub hits-ordered : (ps : PatternSet) (text : List ℤ) (i k : ℕ) → i < k → k < length (hits ps text)
+    → Before ps (getD (hits ps text) i (0, 0)) (getD (hits ps text) k (0, 0))
 unfolding hits
-hits-ordered ps text = hits-ordered-to ps text (length text)
+hits-ordered ps text = ordered-at ps (hits ps text) (hits-ordered-to ps text (length text))
+
+-- THE LIST OF HITS is what document 01 says
+pub hits-list : (ps : PatternSet) (text : List ℤ) → IsHitList ps text (hits ps text)
+hits-list ps text = record { exactly = hits-iff ps text; ordered = hits-ordered ps text }

@@ -1,4 +1,4 @@
 -- The root of the crate's definitions.
 pub mod Matching
-pub mod HitOrder
+pub mod HitList
 pub mod HeadLengths

@@ -11,7 +11,7 @@ use Rattle.cartesian.proofs.Seek.{length-distances}
 use Rattle.cartesian.proofs.HasTree.{Over, over-nil, over-cons, HasTree, empty, root, tree-has, over-at}
 use Rattle.cartesian.proofs.Structure.{treeDistances}
 use Rattle.cartesian.proofs.TreeOf.{treeOf-treeDistances, treeOf-distances}
-use Rattle.realization.specs.Realization.{Realizable, realizable, leftTurns, leastRealization, NotNegative, IsLeast}
+use Rattle.realization.specs.Realization.{Realizable, realizable, leftTurns, leastRealization, IsLeast}
 use Rattle.realization.proofs.LeftTurns.{risen, risen-over, turns-risen, turns-distances, turns-bound}
 use Rattle.realization.proofs.Realizable.{realizable-iff, realizable-tree}
 
@@ -79,7 +79,7 @@ over-place P [] over-nil z i = z
 over-place P (x ∷ xs) (over-cons h hs) z zero = h
 over-place P (x ∷ xs) (over-cons h hs) z (suc i) = over-place P xs hs z i
 
-least-notNegative : (ds : List ℕ) → NotNegative (leastRealization ds)
+least-notNegative : (ds : List ℕ) (i : ℕ) → pos 0 ≤ℤ getD (leastRealization ds) i (pos 0)
 unfolding leastRealization
 least-notNegative ds i =
     over-place (λ x. pos 0 ≤ℤ x) (map pos (leftTurns (treeOf ds)))

@@ -1,14 +1,20 @@
--- Demands 1 and 2 hold: each part is a law of the crate of its topic. Demand 3 is `run-theorem` in
--- Run.antt.
-use Rattle.lists.proofs.Prelude.{_≡_, ap, refl, _++_, ℕ, zero, suc, _<_, length, drop, arith}
+-- The demands hold: each part is a law of the crate of its topic. The run theorem of demand 3 is
+-- proved in Run.antt.
+use Rattle.lists.proofs.Prelude.{_≡_, ap, refl, _++_, ℕ, zero, suc, _*_, _<_, length, drop, arith}
 use Rattle.entries.specs.Entries.{firstMet, unless, streamConditions}
+use Rattle.entries.proofs.Stream.{accepted-room}
 use Rattle.pattern_set.specs.PatternSet.{patternsOf}
-use Rattle.search_model.specs.Search.{call}
+use Rattle.pattern_set.proofs.IsSet.{isSet-iff}
+use Rattle.ranking.proofs.IsRank.{isRank-iff}
+use Rattle.search_model.specs.Search.{step, call}
+use Rattle.search_model.proofs.Feed.{feed-takes, feed-rule}
 use Rattle.cartesian.proofs.Matching.{trees-iff-distances}
+use Rattle.cartesian.proofs.TreeOf.{treeOf-distances}
 use Rattle.realization.proofs.Realizable.{realizable-iff}
 use Rattle.realization.proofs.LeastRealization.{leastRealization-least}
-use Rattle.matching.proofs.HitsIff.{hits-iff}
-use Rattle.runs.specs.Demands.{Demand1, Demand2}
+use Rattle.matching.proofs.HitsOrder.{hits-list}
+use Rattle.runs.specs.Demands.{Demand1, Demand2, Demand3}
+use Rattle.runs.proofs.Run.{run-theorem}
 
 -- where a call is refused, what was is kept
 kept : {A : Type 0} (n : ℕ) (done before : A) → 0 < n → unless n done before ≡ before
@@ -20,7 +26,19 @@ demand1 = record {
   tells = λ none e h. ap (λ c. (firstMet (e .conditions), c)) (kept (firstMet (e .conditions)) (e .counts) none h);
   leaves = λ e array h. kept (firstMet (e .conditions)) (e .result ++ drop (length (e .result)) array) array h;
   handsBack = λ ws automaton out st xs h. kept (firstMet (streamConditions ws automaton st xs out)) (call (patternsOf ws) st (length out) xs .state) st h;
+  lists = realizable-iff;
+  codes = isRank-iff;
+  sets = isSet-iff;
 }
 
 pub demand2 : Demand2
-demand2 = record { trees = trees-iff-distances; accepted = realizable-iff; least = leastRealization-least; listed = hits-iff }
+demand2 = record { trees = trees-iff-distances; stored = treeOf-distances; least = leastRealization-least; listed = hits-list }
+
+pub demand3 : Demand3
+demand3 = record {
+  run = run-theorem;
+  taking = λ ws automaton out st xs e. record {
+    some = feed-takes (step (patternsOf ws)) (2 * length (patternsOf ws)) st (length out) xs (accepted-room ws automaton st xs out e);
+    rule = feed-rule (step (patternsOf ws)) (2 * length (patternsOf ws)) st (length out) xs;
+  };
+}

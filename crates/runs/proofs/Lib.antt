@@ -9,5 +9,6 @@ pub mod Ring
 pub mod Push
 pub mod Step
 pub mod Call
+pub mod Taken
 pub mod Run
 pub mod Demands

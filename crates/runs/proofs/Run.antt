@@ -1,8 +1,9 @@
 -- THE RUN THEOREM (demand 3). Each call keeps the state that of a search over the text taken so
 -- far, and is seen as the reference sees it; one induction over the list of calls gives the rest.
-use Rattle.lists.proofs.Prelude.{_≡_, _∙_, ap, sym, refl, subst, ap₂, Bool, true, false, cond, not, none, some, List, [], _∷_, _++_, append-nil, append-assoc}
-use Rattle.lists.proofs.Prelude.{flatten, ℕ, zero, suc, _+_, _*_, _≤_, _<_, ℤ, T, ltb, length, take, drop, take-at, arith, ne-eqb, le-ltb, ltb-false, begins}
-use Rattle.lists.proofs.Prelude.{tabulate, List·Memᴰ, List·Memᴰ·not-nil, List·Memᴰ·cases-cons, inl, inr, _⊎_}
+use Rattle.lists.proofs.Prelude.{_≡_, _∙_, ap, sym, refl, subst, ap₂, Bool, true, false, cond, not, _&&_, none, some, List, [], _∷_, _++_, append-nil}
+use Rattle.lists.proofs.Prelude.{append-assoc, flatten, ℕ, zero, suc, _+_, _*_, _≤_, _<_, ℤ, T, eqb, leb, ltb, eqb·suc-zero, length, length-append, take, drop}
+use Rattle.lists.proofs.Prelude.{take-at, arith, ne-eqb, le-ltb, ltb-false, begins, select, tabulate, List·Memᴰ, List·Memᴰ·not-nil, List·Memᴰ·cases-cons, inl}
+use Rattle.lists.proofs.Prelude.{inr, _⊎_}
 use Rattle.lists.proofs.Tests.{true-T, T-true}
 use Rattle.answers.specs.declared.SearchState.{SearchState}
 use Rattle.answers.specs.Told.{newSearch}
@@ -12,13 +13,14 @@ use Rattle.matching.specs.Matching.{hits, hitWords, candidates}
 use Rattle.entries.specs.Entries.{firstMet, unless, told, after, Counts, streamConditions, filterEntry}
 use Rattle.automaton_model.specs.Automaton.{automatonWords}
 use Rattle.search_model.specs.Search.{goodState, Called, call}
-use Rattle.entries.proofs.Refusals.{leftBy, first-unmet}
+use Rattle.entries.proofs.Refusals.{leftBy}
 use Rattle.matching.proofs.HitWords.{length-hitWords, hitWords-append}
-use Rattle.runs.specs.ReferenceRun.{Call, Seen, read, isLent, referenceCall, reference, taken, longestHead}
-use Rattle.runs.specs.Demands.{conditionsOf, observeCall, nextState, observe, lastState, Admitted, toldOr0, written, attemptsOf, Run, RunTheorem}
+use Rattle.matching.proofs.HitsOrder.{hits-list}
+use Rattle.runs.specs.ReferenceRun.{Call, Seen, attemptsOn, isLent, refusalOf, taking, added, hitsOn, seenOf, reference, taken, longestHead}
+use Rattle.runs.specs.Demands.{observeCall, nextState, observe, lastState, Admitted, toldOr0, written, attemptsOf, Run, RunTheorem}
 use Rattle.runs.proofs.LongestHead.{longestHead-le}
 use Rattle.runs.proofs.Step.{Represents, node-reached, new-represents, represents-good}
-use Rattle.runs.proofs.Call.{Agrees, call-reads}
+use Rattle.runs.proofs.Call.{Agrees, none-later, agrees-hits, call-takes}
 
 -- ---- hit words
 
@@ -31,57 +33,91 @@ no-hits ps = refl
 abbrev calledOf : SearchState → Call → Called SearchState
 calledOf st k = call (patternsOf (k .set)) st (length (k .hits)) (k .values)
 
-abbrev refusalOf : SearchState → Call → ℕ
-refusalOf st k = firstMet (conditionsOf st k)
+abbrev refusalBy : SearchState → Call → ℕ
+refusalBy st k = firstMet (streamConditions (k .set) (k .automaton) st (k .values) (k .hits))
 
--- the reference's refusal of a call that is lent the set
-abbrev runRefusal : PatternSet → List ℤ → Call → ℕ
-runRefusal ps text k =
-    firstMet ((7, not (begins (k .automaton) (automatonWords ps))) ∷ (9, ltb 1048576 (length text + length (k .values))) ∷
-    (10, ltb (length (k .hits)) (2 * length ps)) ∷ [])
+-- what is told of a call that is refused with n, or, where n is 0, does this
+abbrev tellCalled : ℕ → Called SearchState → ℕ × Counts
+tellCalled n c = (n, unless n (c .ended, c .taken, length (c .hits), c .attempts) (0, 0, 0, 0))
 
--- what is told, and what is seen, of a call that is refused with n, or, where n is 0, does this
-abbrev tellCalled : {S : Type 0} → ℕ → Called S → ℕ × Counts
-tellCalled n r = (n, unless n (r .ended, r .taken, length (r .hits), r .attempts) (0, 0, 0, 0))
+-- what is seen of it
+abbrev seenBy : PatternSet → ℕ → Called SearchState → Call → Seen
+seenBy ps n c k = record { tells = cond (isLent ps k) (some (tellCalled n c)) none; leaves = leftBy n (hitWords (c .hits)) (k .hits) }
 
-abbrev seenBy : {S : Type 0} → PatternSet → ℕ → Called S → Call → Seen
-seenBy ps n r k = record { tells = cond (isLent ps k) (some (tellCalled n r)) none; leaves = leftBy n (hitWords (r .hits)) (k .hits) }
+seen-lent : (ps : PatternSet) (n : ℕ) (c : Called SearchState) (k : Call) → isLent ps k ≡ true
+    → seenBy ps n c k ≡ record { tells = some (tellCalled n c); leaves = leftBy n (hitWords (c .hits)) (k .hits) }
+seen-lent ps n c k e = rw e refl
 
--- what is seen of a call that is lent the set, and of one that is not
-seen-lent : {S : Type 0} (ps : PatternSet) (n : ℕ) (r : Called S) (k : Call) → isLent ps k ≡ true
-    → seenBy ps n r k ≡ record { tells = some (tellCalled n r); leaves = leftBy n (hitWords (r .hits)) (k .hits) }
-seen-lent ps n r k e = rw e refl
+seen-other : (ps : PatternSet) (n : ℕ) (c : Called SearchState) (k : Call) → isLent ps k ≡ false
+    → seenBy ps (suc n) c k ≡ record { tells = none; leaves = k .hits }
+seen-other ps n c k e = rw e refl
 
-seen-other : {S : Type 0} (ps : PatternSet) (n : ℕ) (r : Called S) (k : Call) → isLent ps k ≡ false
-    → seenBy ps (suc n) r k ≡ record { tells = none; leaves = k .hits }
-seen-other ps n r k e = rw e refl
+-- ---- the same of the reference
 
-reference-lent : (ps : PatternSet) (text : List ℤ) (k : Call) (n : ℕ) → isLent ps k ≡ true → runRefusal ps text k ≡ n
-    → referenceCall ps text k ≡ (
-      seenBy ps n (read ps text (length (k .hits)) (k .values)) k,
-      unless n
-          (read ps text (length (k .hits)) (k .values) .state) text,
-    )
-unfolding referenceCall
-reference-lent ps text k n e f =
-    ap (λ (b : Bool). (
-      seenBy ps (cond (not b) 1 (runRefusal ps text k)) (read ps text (length (k .hits)) (k .values)) k,
-      unless
-          (cond (not b) 1 (runRefusal ps text k)) (read ps text (length (k .hits)) (k .values) .state) text,
-    )) e
-    ∙ ap (λ (m : ℕ). (seenBy ps m (read ps text (length (k .hits)) (k .values)) k, unless m (read ps text (length (k .hits)) (k .values) .state) text)) f
+-- what it sees of a call that is lent the set, is refused with n, or with 0 not at all, and adds
+-- the values xs, on which the hits hs fall
+abbrev told-of : PatternSet → List ℤ → Call → ℕ → List ℤ → List (ℕ × ℕ) → Seen
+told-of ps text k n xs hs = record {
+  tells = some (n, (cond (eqb n 0 && eqb (length xs) (length (k .values))) 1 0, length xs, length hs, attemptsOn ps text xs));
+  leaves = hitWords hs ++ drop (length (hitWords hs)) (k .hits);
+}
 
-reference-other : (ps : PatternSet) (text : List ℤ) (k : Call) → isLent ps k ≡ false
-    → referenceCall ps text k ≡ (record { tells = none; leaves = k .hits }, text)
-unfolding referenceCall
-reference-other ps text k e = rw e refl
+module _ (ps : PatternSet) (text : List ℤ) (k : Call) where
+  reference-lent : (n : ℕ) (xs : List ℤ) (hs : List (ℕ × ℕ)) → isLent ps k ≡ true → refusalOf ps text k ≡ n → added ps text k ≡ xs → hitsOn ps text xs ≡ hs
+      → seenOf ps text k ≡ told-of ps text k n xs hs
+  unfolding seenOf
+  reference-lent n xs hs e f a h = rw (e, f, a, h) refl
+
+  -- no hits fall on no values
+  no-values : hitsOn ps text [] ≡ []
+  unfolding hitsOn
+  no-values =
+      ap (λ (l : List ℤ). select (λ h. leb (length text) (h .0)) (hits ps l)) (append-nil text) ∙ none-later ps text
+
+  added-other : isLent ps k ≡ false → added ps text k ≡ []
+  unfolding added
+  added-other e = rw e refl
+
+  added-refused : (n : ℕ) → isLent ps k ≡ true → refusalOf ps text k ≡ suc n → added ps text k ≡ []
+  unfolding added
+  added-refused n e f = rw (e, f, eqb·suc-zero n) refl
+
+  added-accepted : isLent ps k ≡ true → refusalOf ps text k ≡ 0 → added ps text k ≡ taking ps text (length (k .hits)) (k .values)
+  unfolding added
+  added-accepted e f = rw (e, f) refl
+
+  reference-refused : (n : ℕ) → isLent ps k ≡ true → refusalOf ps text k ≡ suc n
+      → seenOf ps text k ≡ record { tells = some (suc n, (0, 0, 0, 0)); leaves = k .hits }
+  unfolding attemptsOn hitWords
+  reference-refused n e f = reference-lent (suc n) [] [] e f (added-refused n e f) no-values ∙ (rw (eqb·suc-zero n) refl)
+
+  reference-other : isLent ps k ≡ false → seenOf ps text k ≡ record { tells = none; leaves = k .hits }
+  unfolding seenOf hitWords
+  reference-other e = rw (e, added-other e, no-values) refl
 
 -- 8 is none of the reference's refusals
-not-eight : (a b c : Bool) → firstMet ((7, a) ∷ (9, b) ∷ (10, c) ∷ []) ≡ 8 → ⊥
+not-eight : (a b c : Bool) → _≡_ {A = ℕ} (cond a 7 (cond b 9 (cond c 10 0))) 8 → ⊥
 not-eight true b c e = omega arith
 not-eight false true c e = omega arith
 not-eight false false true e = omega arith
 not-eight false false false e = omega arith
+
+never-eight : (ps : PatternSet) (text : List ℤ) (k : Call) → refusalOf ps text k ≡ 8 → ⊥
+unfolding refusalOf
+never-eight ps text k e =
+    not-eight (not (begins (k .automaton) (automatonWords ps))) (ltb 1048576 (length text + length (k .values))) (ltb (length (k .hits)) (2 * length ps)) e
+
+-- an accepted call does not go past the limit
+within-limit : (ps : PatternSet) (text : List ℤ) (k : Call) → refusalOf ps text k ≡ 0 → length text + length (k .values) ≤ 1048576
+unfolding refusalOf
+within-limit ps text k e = go (not (begins (k .automaton) (automatonWords ps))) (ltb 1048576 (length text + length (k .values))) refl e
+  where
+    go : (a b : Bool) → ltb 1048576 (length text + length (k .values)) ≡ b
+        → _≡_ {A = ℕ} (cond a 7 (cond b 9 (cond (ltb (length (k .hits)) (2 * length ps)) 10 0))) 0
+        → length text + length (k .values) ≤ 1048576
+    go true b q f = absurd (let y : ⊥ = omega arith in y)
+    go false true q f = absurd (let y : ⊥ = omega arith in y)
+    go false false q f = ltb-false 1048576 (length text + length (k .values)) q
 
 -- what never is told of the first nor of the rest is told of none
 never-cons : (s : Seen) (ss : List Seen) → (toldOr0 (λ t. t .0) (s .tells) ≡ 8 → ⊥) → ((q : Seen) → List·Memᴰ q ss → toldOr0 (λ t. t .0) (q .tells) ≡ 8 → ⊥)
@@ -93,35 +129,34 @@ never-cons s ss f g q (inr m) h = g q m h
 
 -- what one call is, from a state that represents the text
 record OneCall (ps : PatternSet) (text : List ℤ) (st : SearchState) (k : Call) : Type 0 where
-  same : observeCall ps st k ≡ referenceCall ps text k .0
-  state : Represents ps (referenceCall ps text k .1) (nextState st k)
-  limit : length (referenceCall ps text k .1) ≤ 1048576
-  longer : length text ≤ length (referenceCall ps text k .1)
+  same : observeCall ps st k ≡ seenOf ps text k
+  state : Represents ps (text ++ added ps text k) (nextState st k)
+  limit : length (text ++ added ps text k) ≤ 1048576
+  longer : length text ≤ length (text ++ added ps text k)
   never : toldOr0 (λ t. t .0) (observeCall ps st k .tells) ≡ 8 → ⊥
-  bound : toldOr0 (λ t. t .1 .3) (observeCall ps st k .tells) + longestHead ps (referenceCall ps text k .1) + 2 * length text
-      ≤ longestHead ps text + 2 * length (referenceCall ps text k .1)
-  list : hitWords (hits ps (referenceCall ps text k .1)) ≡ hitWords (hits ps text) ++ take (2 * toldOr0 (λ t. t .1 .2) (observeCall ps st k .tells))
+  bound : toldOr0 (λ t. t .1 .3) (observeCall ps st k .tells) + longestHead ps (text ++ added ps text k) + 2 * length text
+      ≤ longestHead ps text + 2 * length (text ++ added ps text k)
+  list : hitWords (hits ps (text ++ added ps text k)) ≡ hitWords (hits ps text) ++ take (2 * toldOr0 (λ t. t .1 .2) (observeCall ps st k .tells))
       (observeCall ps st k .leaves)
 
 -- one call is told by what is seen of it and by the text after it
 one-by : (ps : PatternSet) (text : List ℤ) (st : SearchState) (k : Call) (s : Seen) (more : List ℤ)
-    → observeCall ps st k ≡ s → referenceCall ps text k ≡ (s, more) → Represents ps more (nextState st k) → length more ≤ 1048576 → length text ≤ length more
-    → (toldOr0 (λ t. t .0) (s .tells) ≡ 8 → ⊥)
+    → observeCall ps st k ≡ s → seenOf ps text k ≡ s → text ++ added ps text k ≡ more → Represents ps more (nextState st k)
+    → length more ≤ 1048576 → length text ≤ length more → (toldOr0 (λ t. t .0) (s .tells) ≡ 8 → ⊥)
     → toldOr0 (λ t. t .1 .3) (s .tells) + longestHead ps more + 2 * length text ≤ longestHead ps text + 2 * length more
     → hitWords (hits ps more) ≡ hitWords (hits ps text) ++ take (2 * toldOr0 (λ t. t .1 .2) (s .tells)) (s .leaves) → OneCall ps text st k
-one-by ps text st k s more o q r l m v b w =
-    let e : referenceCall ps text k .1 ≡ more = ap (λ (p : Seen × List ℤ). p .1) q in
+one-by ps text st k s more o q e r l m v b w =
     record {
-      same = o ∙ sym (ap (λ (p : Seen × List ℤ). p .0) q);
+      same = o ∙ sym q;
       state = subst (λ (t : List ℤ). Represents ps t (nextState st k)) (sym e) r;
       limit = rw e l;
       longer = rw e m;
       never = λ d. v (ap (λ (t : Seen). toldOr0 (λ t. t .0) (t .tells)) (sym o) ∙ d);
       bound =
           subst (λ (t : Seen). toldOr0 (λ t. t .1 .3) (t .tells) + longestHead ps
-          (referenceCall ps text k .1) + 2 * length text ≤ longestHead ps text + 2 * length (referenceCall ps text k .1)) (sym o) (rw e b);
+          (text ++ added ps text k) + 2 * length text ≤ longestHead ps text + 2 * length (text ++ added ps text k)) (sym o) (rw e b);
       list =
-          subst (λ (t : Seen). hitWords (hits ps (referenceCall ps text k .1)) ≡ hitWords (hits ps text) ++ take
+          subst (λ (t : Seen). hitWords (hits ps (text ++ added ps text k)) ≡ hitWords (hits ps text) ++ take
           (2 * toldOr0 (λ t. t .1 .2) (t .tells)) (t .leaves)) (sym o) (rw e w);
     }
 
@@ -132,8 +167,8 @@ module _ (ps : PatternSet) (g : T (goodSet ps)) (z : 0 < length ps) where
   -- under the set the refusals are the reference's: 1, 5 and 8 never hold, and 9 is as counted from
   -- the text
   refusal-same : (text : List ℤ) (st : SearchState) (k : Call) → Represents ps text st → length text ≤ 1048576 → isLent ps k ≡ true
-      → refusalOf st k ≡ runRefusal ps text k
-  unfolding streamConditions
+      → refusalBy st k ≡ refusalOf ps text k
+  unfolding streamConditions refusalOf
   refusal-same text st k r l e =
       rw (
         lent-set k e .0,
@@ -146,82 +181,77 @@ module _ (ps : PatternSet) (g : T (goodSet ps)) (z : 0 < length ps) where
 
   -- a call lent another set is refused and changes nothing
   one-other : (text : List ℤ) (st : SearchState) (k : Call) (n : ℕ) → Represents ps text st → length text ≤ 1048576 → isLent ps k ≡ false
-      → refusalOf st k ≡ suc n → OneCall ps text st k
+      → refusalBy st k ≡ suc n → OneCall ps text st k
   one-other text st k n r l e f =
       one-by ps text st k (record { tells = none; leaves = k .hits }) text
       (ap (λ (m : ℕ). seenBy ps m (calledOf st k) k) f ∙ seen-other ps n (calledOf st k) k e)
       (reference-other ps text k e)
+      (ap (λ (xs : List ℤ). text ++ xs) (added-other ps text k e) ∙ append-nil text)
       (subst (Represents ps text) (sym (ap (λ (m : ℕ). unless m ((calledOf st k) .state) st) f)) r)
       l (omega arith) (λ d. let w : ⊥ = omega arith in w) (omega arith) (sym (append-nil (hitWords (hits ps text))))
 
   -- a refused call under the set changes nothing
   one-refused : (text : List ℤ) (st : SearchState) (k : Call) (n : ℕ) → Represents ps text st → length text ≤ 1048576 → isLent ps k ≡ true
-      → runRefusal ps text k ≡ suc n → OneCall ps text st k
+      → refusalOf ps text k ≡ suc n → OneCall ps text st k
   one-refused text st k n r l e f =
-      let R = read ps text (length (k .hits)) (k .values) in
-      let m : refusalOf st k ≡ suc n = refusal-same text st k r l e ∙ f in
+      let m : refusalBy st k ≡ suc n = refusal-same text st k r l e ∙ f in
       one-by ps text st k (record { tells = some (suc n, (0, 0, 0, 0)); leaves = k .hits }) text
       (ap (λ (i : ℕ). seenBy ps i (calledOf st k) k) m ∙ seen-lent ps (suc n) (calledOf st k) k e)
-      (reference-lent ps text k (suc n) e f ∙ ap (λ (s : Seen). (s, text)) (seen-lent ps (suc n) R k e))
+      (reference-refused ps text k n e f)
+      (ap (λ (xs : List ℤ). text ++ xs) (added-refused ps text k n e f) ∙ append-nil text)
       (subst (Represents ps text) (sym (ap (λ (i : ℕ). unless i ((calledOf st k) .state) st) m)) r)
-      l (omega arith)
-      (λ d. not-eight (not (begins (k .automaton) (automatonWords ps))) (ltb 1048576 (length text + length (k .values)))
-      (ltb (length (k .hits)) (2 * length ps)) (f ∙ d))
-      (omega arith) (sym (append-nil (hitWords (hits ps text))))
+      l (omega arith) (λ d. never-eight ps text k (f ∙ d)) (omega arith) (sym (append-nil (hitWords (hits ps text))))
 
+  -- an accepted call under the set takes what the reference takes
   one-accepted : (text : List ℤ) (st : SearchState) (k : Call) → Represents ps text st → length text ≤ 1048576 → isLent ps k ≡ true
-      → runRefusal ps text k ≡ 0 → OneCall ps text st k
+      → refusalOf ps text k ≡ 0 → OneCall ps text st k
   one-accepted text st k r l e f =
-      let R = read ps text (length (k .hits)) (k .values) in
       let C = call ps st (length (k .hits)) (k .values) in
-      let A : Agrees ps text (length (k .values)) C R = call-reads ps g z (k .values) text st (length (k .hits)) r in
+      let vs = taking ps text (length (k .hits)) (k .values) in
+      let A : Agrees ps text (k .values) C vs = call-takes ps g z (k .values) text st (length (k .hits)) r in
       let c : calledOf st k ≡ C = ap (λ (qs : PatternSet). call qs st (length (k .hits)) (k .values)) (lent-set k e .1) in
-      let n : refusalOf st k ≡ 0 = refusal-same text st k r l e ∙ f in
-      let fits = fits-limit (not (begins (k .automaton) (automatonWords ps))) (length text + length (k .values)) (ltb (length (k .hits)) (2 * length ps)) f in
-      one-by ps text st k (record {
-        tells = some (0, (R .ended, R .taken, length (R .hits), R .attempts));
-        leaves = hitWords (R .hits) ++ drop (length (hitWords (R .hits))) (k .hits);
-      }) (R .state)
-      (ap (λ (i : ℕ). seenBy ps i (calledOf st k) k) n ∙ ap (λ (d : Called SearchState). seenBy ps 0 d k) c ∙ seen-lent ps 0 C k e ∙ same-seen text
-      (length (k .values)) C R k A)
-      (reference-lent ps text k 0 e f ∙ ap (λ (s : Seen). (s, R .state)) (seen-lent ps 0 R k e))
-      (subst (Represents ps (R .state)) (sym (ap (λ (i : ℕ). unless i ((calledOf st k) .state) st) n ∙ ap (λ (d : Called SearchState). d .state) c)) (A .state))
-      (omega (arith, A .longer, A .within, fits)) (omega (arith, A .longer)) (λ d. let w : ⊥ = omega arith in w) (omega (arith, A .bound, A .longer))
-      (ap hitWords (A .more) ∙ hitWords-append (hits ps text) (R .hits)
+      let n : refusalBy st k ≡ 0 = refusal-same text st k r l e ∙ f in
+      let a = added-accepted ps text k e f in
+      one-by ps text st k (seenBy ps 0 C k) (text ++ vs)
+      (ap (λ (i : ℕ). seenBy ps i (calledOf st k) k) n ∙ ap (λ (d : Called SearchState). seenBy ps 0 d k) c)
+      (reference-lent ps text k 0 vs (C .hits) e f a (sym (agrees-hits ps text (k .values) C vs A)) ∙ sym (seen-lent ps 0 C k e ∙ same-seen text C vs k A))
+      (ap (λ (xs : List ℤ). text ++ xs) a)
+      (subst (Represents ps (text ++ vs)) (sym (ap (λ (i : ℕ). unless i ((calledOf st k) .state) st) n
+      ∙ ap (λ (d : Called SearchState). d .state) c)) (A .state))
+      (omega (arith, length-append text vs, A .within, within-limit ps text k f)) (omega (arith, length-append text vs))
+      (subst (λ (b : Bool). toldOr0 (λ t. t .0) (cond b (some (tellCalled 0 C)) none) ≡ 8 → ⊥) (sym e) (λ d. let w : ⊥ = omega arith in w))
+      (subst (λ (b : Bool). toldOr0 (λ t. t .1 .3) (cond b (some (tellCalled 0 C)) none) + longestHead ps (text ++ vs) + 2 * length text
+      ≤ longestHead ps text + 2 * length (text ++ vs)) (sym e) (omega (arith, A .bound, length-append text vs)))
+      (subst (λ (b : Bool). hitWords (hits ps (text ++ vs)) ≡ hitWords (hits ps text)
+      ++ take (2 * toldOr0 (λ t. t .1 .2) (cond b (some (tellCalled 0 C)) none)) (leftBy 0 (hitWords (C .hits)) (k .hits))) (sym e)
+      (ap hitWords (A .more) ∙ hitWords-append (hits ps text) (C .hits)
       ∙ ap (λ (v : List ℕ). hitWords (hits ps text) ++ v)
-      (sym (take-at (hitWords (R .hits)) (drop (length (hitWords (R .hits))) (k .hits)) (2 * length (R .hits)) (length-hitWords (R .hits)))))
+      (sym (take-at (hitWords (C .hits)) (drop (length (hitWords (C .hits))) (k .hits)) (2 * length (C .hits)) (length-hitWords (C .hits))))))
     where
-      same-seen : (text : List ℤ) (limit : ℕ) (c : Called SearchState) (r : Called (List ℤ)) (k : Call) → Agrees ps text limit c r
+      same-seen : (text : List ℤ) (c : Called SearchState) (vs : List ℤ) (k : Call) → Agrees ps text (k .values) c vs
           → _≡_ {A = Seen} (record {
             tells = some (0, (c .ended, c .taken, length (c .hits), c .attempts));
-            leaves = hitWords (c .hits) ++ drop
-                (length (hitWords (c .hits))) (k .hits);
+            leaves = hitWords (c .hits) ++ drop (length (hitWords (c .hits))) (k .hits);
           })
-          (record {
-            tells = some (0, (r .ended, r .taken, length (r .hits), r .attempts));
-            leaves = hitWords (r .hits) ++ drop (length (hitWords (r .hits))) (k .hits);
-          })
-      same-seen text limit c r k a =
+          (told-of ps text k 0 vs (c .hits))
+      same-seen text c vs k a =
           λ i. record {
-            tells = some (0, (a .ended i, a .taken i, length (a .hits i), a .attempts i));
-            leaves = hitWords (a .hits i) ++ drop (length (hitWords (a .hits i))) (k .hits);
+            tells = some (0, (a .ended i, a .taken i, length (c .hits), a .attempts i));
+            leaves = hitWords (c .hits) ++ drop (length (hitWords (c .hits))) (k .hits);
           }
 
-      fits-limit : (a : Bool) (n : ℕ) (b : Bool) → firstMet ((7, a) ∷ (9, ltb 1048576 n) ∷ (10, b) ∷ []) ≡ 0 → n ≤ 1048576
-      fits-limit a n b e = ltb-false 1048576 n (first-unmet 8 (ltb 1048576 n) ((10, b) ∷ []) (first-unmet 6 a ((9, ltb 1048576 n) ∷ (10, b) ∷ []) e .1) .0)
-
   one-call : (text : List ℤ) (st : SearchState) (k : Call) → Represents ps text st → length text ≤ 1048576
-      → (isLent ps k ≡ false → 0 < refusalOf st k) → OneCall ps text st k
-  one-call text st k r l a = go (isLent ps k) refl a (runRefusal ps text k) refl
+      → (isLent ps k ≡ false → 0 < refusalBy st k) → OneCall ps text st k
+  one-call text st k r l a = go (isLent ps k) refl a (refusalOf ps text k) refl
     where
-      other : (m : ℕ) → refusalOf st k ≡ m → 0 < m → isLent ps k ≡ false → OneCall ps text st k
+      other : (m : ℕ) → refusalBy st k ≡ m → 0 < m → isLent ps k ≡ false → OneCall ps text st k
       other zero q p e = absurd (let w : ⊥ = omega arith in w)
       other (suc m) q p e = one-other text st k m r l e q
 
-      go : (b : Bool) → isLent ps k ≡ b → (isLent ps k ≡ false → 0 < refusalOf st k) → (n : ℕ) → runRefusal ps text k ≡ n → OneCall ps text st k
+      go : (b : Bool) → isLent ps k ≡ b → (isLent ps k ≡ false → 0 < refusalBy st k) → (n : ℕ) → refusalOf ps text k ≡ n → OneCall ps text st k
       go true e p zero f = one-accepted text st k r l e f
       go true e p (suc n) f = one-refused text st k n r l e f
-      go false e p n f = other (refusalOf st k) refl (p e) e
+      go false e p n f = other (refusalBy st k) refl (p e) e
 
   -- ---- all calls
 
@@ -248,7 +278,7 @@ module _ (ps : PatternSet) (g : T (goodSet ps)) (z : 0 < length ps) where
       }
   all-calls (k ∷ cs) text st r l a =
       let o = one-call text st k r l (a .0) in
-      let i = all-calls cs (referenceCall ps text k .1) (nextState st k) (o .state) (o .limit) (a .1) in
+      let i = all-calls cs (text ++ added ps text k) (nextState st k) (o .state) (o .limit) (a .1) in
       record {
         same = ap₂ (λ (s : Seen) (ss : List Seen). s ∷ ss) (o .same) (i .same);
         state = i .state;
@@ -295,8 +325,27 @@ module _ (ps : PatternSet) (g : T (goodSet ps)) (z : 0 < length ps) where
         places = c .state .minima .places;
         values = c .state .minima .values;
         list = w;
+        pairs = hits-list ps R;
         filtered = λ ws out f. rw w (filter-list R (c .limit) ws out f);
       }
 
+-- ---- a front of the calls is seen as in the whole list, and may stand alone
+
+observe-take : (ps : PatternSet) (cs : List Call) (st : SearchState) (n : ℕ) → take n (observe ps st cs) ≡ observe ps st (take n cs)
+unfolding observe
+observe-take ps [] st zero = refl
+observe-take ps [] st (suc n) = refl
+observe-take ps (c ∷ cs) st zero = refl
+observe-take ps (c ∷ cs) st (suc n) = ap (λ (l : List Seen). observeCall ps st c ∷ l) (observe-take ps cs (nextState st c) n)
+
+admitted-take : (ps : PatternSet) (cs : List Call) (st : SearchState) (n : ℕ) → Admitted ps st cs → Admitted ps st (take n cs)
+unfolding Admitted
+admitted-take ps [] st zero a = tt
+admitted-take ps [] st (suc n) a = tt
+admitted-take ps (c ∷ cs) st zero a = tt
+admitted-take ps (c ∷ cs) st (suc n) a = (a .0, admitted-take ps cs (nextState st c) n (a .1))
+
 pub run-theorem : RunTheorem
-run-theorem ps g z cs a = run-of ps g z cs a
+run-theorem ps g z cs a n =
+    subst (λ (seen : List Seen). Run ps (take n cs) seen (taken ps [] (take n cs)) (lastState newSearch (take n cs)))
+    (sym (observe-take ps cs newSearch n)) (run-of ps g z (take n cs) (admitted-take ps cs newSearch n a))

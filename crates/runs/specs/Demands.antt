@@ -1,21 +1,21 @@
 -- The three demands, as they follow from the entries' promises: each promise equals definitions of
--- `entries`, and these are statements about them. The proofs are in proofs/Demands.antt and
--- proofs/Run.antt.
-use mathlib.Core.Logic.{_↔_}
-use mathlib.Core.List.{List·Memᴰ}
-use Rattle.lists.specs.Prelude.{_≡_, Bool, false, Option, none, some, List, [], _∷_, _++_, map, ℕ, suc, _+_, _*_, _≤_, _<_, T, ℤ, pos, length, getD, take, drop}
-use Rattle.lists.specs.Prelude.{tabulate, lastOf}
+-- `entries`, and these are statements about them. docs/DEMANDS.md leads from each sentence of a
+-- demand to the field that states it. The proofs are in proofs/Demands.antt and proofs/Run.antt.
+use Rattle.lists.specs.Prelude.{_≡_, _⊎_, _↔_, false, cond, Option, none, some, List, [], _∷_, _++_, List·Memᴰ, map, ℕ, _+_, _*_, _≤_, _<_, T, ℤ, pos, length}
+use Rattle.lists.specs.Prelude.{getD, take, drop, tabulate, lastOf, begins}
 use Rattle.answers.specs.declared.SearchState.{SearchState}
+use Rattle.answers.specs.Told.{newSearch}
 use Rattle.cartesian.specs.Cartesian.{tree, distances, treeOf}
 use Rattle.realization.specs.Realization.{Realizable, realizable, IsLeast, leastRealization}
-use Rattle.pattern_set.specs.PatternSet.{PatternSet, goodSet, setWords, patternsOf}
+use Rattle.ranking.specs.Rank.{rank, isRank}
+use Rattle.pattern_set.specs.PatternSet.{PatternSet, goodSet, setWords, IsSet, patternsOf}
 use Rattle.matching.specs.Matching.{hits, hitWords, candidates}
-use Rattle.entries.specs.Entries.{Entry, firstMet, told, after, streamConditions, streamState, Counts, filterEntry}
-use Rattle.answers.specs.Told.{newSearch}
+use Rattle.matching.specs.HitList.{IsHitList}
 use Rattle.automaton_model.specs.Automaton.{headOf}
 use Rattle.search_model.specs.Ring.{placeAt, valueAt}
-use Rattle.search_model.specs.Search.{ringOf, call}
-use Rattle.runs.specs.ReferenceRun.{Call, Seen, isLent, seenOf, reference, taken, longestHead, openPlaces}
+use Rattle.search_model.specs.Search.{ringOf}
+use Rattle.entries.specs.Entries.{Entry, firstMet, told, after, Counts, streamConditions, streamEntry, streamState, filterEntry}
+use Rattle.runs.specs.ReferenceRun.{Call, Seen, isLent, reference, taken, longestHead, openPlaces}
 
 -- Demand 1. The entries ask nothing of their callers, and each refuses on the conditions that
 -- `entries` lists for it. A refused call
@@ -25,27 +25,35 @@ pub record Demand1 : Type 1 where
   -- leaves every word as it was, and hands the state back as given
   pub leaves : {C A : Type 0} (e : Entry C A) (array : List A) → 0 < firstMet (e .conditions) → after e array ≡ array
   pub handsBack : (ws am out : List ℕ) (st : SearchState) (xs : List ℤ) → 0 < firstMet (streamConditions ws am st xs out) → streamState ws am st xs out ≡ st
+  -- The tests in the conditions decide what document 01 says. A list of distances passes exactly if
+  -- some values have it; a code exactly if a realizable list of that length has it; a set array
+  -- exactly if it begins with the words of a good set
+  pub lists : (ds : List ℕ) → T (realizable ds) ↔ Realizable ds
+  pub codes : (n code : ℕ) → T (isRank n code) ↔ ((ds : List ℕ) × Realizable ds × (length ds ≡ n) × (rank ds ≡ code))
+  pub sets : (ws : List ℕ) → IsSet ws ↔ ((ps : PatternSet) × T (goodSet ps) × T (begins ws (setWords ps)))
 
--- Demand 2. Distances are those of the Cartesian tree; a list is accepted only if some values have
--- it, and then such values are written; the filter search lists every pair of equal trees and no
--- others
+-- Demand 2
 pub record Demand2 : Type 0 where
+  -- distances are those of the Cartesian tree, and the tree that a stored list stands for is that
+  -- of any values that have it
   pub trees : (xs ys : List ℤ) → (tree xs ≡ tree ys) ↔ (distances xs ≡ distances ys)
-  pub accepted : (ds : List ℕ) → T (realizable ds) ↔ Realizable ds
+  pub stored : (xs : List ℤ) → treeOf (distances xs) ≡ tree xs
+  -- of a list that is accepted, values that have it are written: the least
   pub least : (ds : List ℕ) → Realizable ds → IsLeast ds (leastRealization ds)
-  pub listed : (ps : PatternSet) (text : List ℤ) (p j : ℕ) → List·Memᴰ (p, j) (hits ps text)
-      ↔ ((p < length text) × (j < length ps) × (0 < length (getD ps j [])) × (length (getD ps j []) ≤ suc p)
-      × (tree (lastOf (length (getD ps j [])) (take (suc p) text)) ≡ treeOf (getD ps j [])))
+  -- what a filter search lists is every pair of pattern and window with equal trees and no other,
+  -- each once and in order
+  pub listed : (ps : PatternSet) (text : List ℤ) → IsHitList ps text (hits ps text)
 
 -- ---- Demand 3, as one statement about any list of stream search calls from a new state
 
 -- ---- what the entry's promise says of each call, given the state that the one before handed back
 
-abbrev pub conditionsOf : SearchState → Call → List (ℕ × Bool)
-conditionsOf st c = streamConditions (c .set) (c .automaton) st (c .values) (c .hits)
+abbrev pub entryOf : SearchState → Call → Entry Counts ℕ
+entryOf st c = streamEntry (c .set) (c .automaton) st (c .values) (c .hits)
 
+-- of a call that is lent another set only that it is refused is seen
 abbrev pub observeCall : PatternSet → SearchState → Call → Seen
-observeCall ps st c = seenOf ps (conditionsOf st c) (call (patternsOf (c .set)) st (length (c .hits)) (c .values)) c
+observeCall ps st c = record { tells = cond (isLent ps c) (some (told (0, 0, 0, 0) (entryOf st c))) none; leaves = after (entryOf st c) (c .hits) }
 
 abbrev pub nextState : SearchState → Call → SearchState
 nextState st c = streamState (c .set) (c .automaton) st (c .values) (c .hits)
@@ -62,7 +70,7 @@ lastState st (c ∷ cs) = lastState (nextState st c) cs
 -- a call that is lent another set stands in the list only if it is refused
 unfoldable pub Admitted : PatternSet → SearchState → List Call → Type 0
 Admitted ps st [] = Unit {0}
-Admitted ps st (c ∷ cs) = (isLent ps c ≡ false → 0 < firstMet (conditionsOf st c)) × Admitted ps (nextState st c) cs
+Admitted ps st (c ∷ cs) = (isLent ps c ≡ false → 0 < firstMet (entryOf st c .conditions)) × Admitted ps (nextState st c) cs
 
 -- ---- sums over all calls
 
@@ -95,15 +103,31 @@ pub record Run (ps : PatternSet) (cs : List Call) (seen : List Seen) (R : List �
   pub node : headOf ps (st .node) ≡ distances (lastOf (longestHead ps R) R)
   pub places : tabulate (st .minima) (placeAt (ringOf st)) ≡ openPlaces R
   pub values : tabulate (st .minima) (valueAt (ringOf st)) ≡ map (λ i. getD R i (pos 0)) (openPlaces R)
-  -- what the calls wrote, one after the other, are the hits of the text
+  -- what the calls wrote, one after the other, are the hits of the text: one for each pair of
+  -- pattern and window with equal trees, by last place, longer pattern first, then lower number
   pub list : written seen ≡ hitWords (hits ps R)
+  pub pairs : IsHitList ps R (hits ps R)
   -- and a filter search of the set over the same values, with an array that holds its list, writes
   -- the same list
   pub filtered : (ws out : List ℕ) → length (hitWords (hits ps R)) ≤ length out
       → (told (0, 0) (filterEntry (setWords ps ++ ws) R out) ≡ (0, (length (hits ps R), candidates ps R)))
       × (after (filterEntry (setWords ps ++ ws) R out) out ≡ written seen ++ drop (length (written seen)) out)
 
--- THE RUN THEOREM
+-- THE RUN THEOREM: it holds after each call, the nth among them, and so at every front of the list
 abbrev pub RunTheorem : Type 0
-RunTheorem = (ps : PatternSet) → T (goodSet ps) → 0 < length ps → (cs : List Call) → Admitted ps newSearch cs
-    → Run ps cs (observe ps newSearch cs) (taken ps [] cs) (lastState newSearch cs)
+RunTheorem = (ps : PatternSet) → T (goodSet ps) → 0 < length ps → (cs : List Call) → Admitted ps newSearch cs → (n : ℕ)
+    → Run ps (take n cs) (take n (observe ps newSearch cs)) (taken ps [] (take n cs)) (lastState newSearch (take n cs))
+
+-- what a call that was handed the values and an array of so many words counts, under k patterns
+pub record Taking (k room : ℕ) (xs : List ℤ) (c : Counts) : Type 0 where
+  -- it takes a value, if it is handed one
+  pub some : 0 < length xs → 0 < c .1
+  -- it is ended and takes all; or it is full, takes not all, and behind its hits fewer than two
+  -- words a pattern are free
+  pub rule : ((c .0 ≡ 1) × (c .1 ≡ length xs)) ⊎ ((c .0 ≡ 0) × (c .1 < length xs) × (room < 2 * k + 2 * c .2))
+
+pub record Demand3 : Type 0 where
+  pub run : RunTheorem
+  -- the rule of ended and full, of every accepted call, whatever state it is given
+  pub taking : (ws am out : List ℕ) (st : SearchState) (xs : List ℤ) → firstMet (streamConditions ws am st xs out) ≡ 0
+      → Taking (length (patternsOf ws)) (length out) xs (streamEntry ws am st xs out .counts)

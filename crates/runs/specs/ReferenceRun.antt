@@ -1,12 +1,12 @@
--- The reference run of a list of stream search calls, by trees. Document 01: A run of ladder
--- searches; Run book; Trials.
-use Rattle.lists.specs.Prelude.{Bool, cond, not, _&&_, _||_, Option, none, some, List, [], _∷_, _++_, map, ℕ, suc, pred, _+_, _*_, leb, ltb, ℤ, pos, leZ}
-use Rattle.lists.specs.Prelude.{length, getD, tabulate, lastBelow, lastOf, all, select, begins}
+-- The reference run of a list of stream search calls: what document 01's run book says of them,
+-- from the text alone and by trees of windows. It shares no rule with the search. The automaton's
+-- words stand in refusal 7 and nowhere else. Document 01: A run of ladder searches; Run book;
+-- Trials.
+use Rattle.lists.specs.Prelude.{Bool, cond, not, _&&_, _||_, Option, none, some, List, [], _∷_, _++_, ℕ, suc, pred, _+_, _-_, _*_, eqb, leb, ltb, ℤ, pos, leZ}
+use Rattle.lists.specs.Prelude.{length, getD, drop, tabulate, lastBelow, lastOf, all, select, begins}
 use Rattle.pattern_set.specs.PatternSet.{PatternSet, setWords}
-use Rattle.matching.specs.Matching.{lastHits, headTree}
-use Rattle.entries.specs.Entries.{Conditions, firstMet, unless, told, after, Counts, calledEntry}
+use Rattle.matching.specs.Matching.{lastHits, hits, hitWords, headTree}
 use Rattle.automaton_model.specs.Automaton.{automatonWords}
-use Rattle.search_model.specs.Search.{Stepped, Called, feed}
 
 -- what a caller lends
 pub record Call : Type 0 where
@@ -15,16 +15,18 @@ pub record Call : Type 0 where
   pub values : List ℤ
   pub hits : List ℕ
 
--- what is seen of a call: what it tells, or, where it is lent another set, only that it is refused;
--- and its hit array afterwards
+-- what is seen of a call
 pub record Seen : Type 0 where
-  pub tells : Option (ℕ × Counts)
+  -- what it tells: its refusal, or 0; and 1 where it ended and 0 where it is full, values taken,
+  -- hits and attempts. Where it is lent another set, only that it is refused
+  pub tells : Option (ℕ × (ℕ × ℕ × ℕ × ℕ))
+  -- its hit array afterwards
   pub leaves : List ℕ
 
--- ---- attempts of the value x after the text
+-- ---- attempts
 
--- the longest suffix of the text that has the tree of some head, and has so with the value added
--- behind it
+-- of the value x after the text: the longest suffix of the text that has the tree of some head, and
+-- has so with the value added behind it
 unfoldable pub longestExtended : PatternSet → List ℤ → ℤ → ℕ
 longestExtended ps text x = pred (lastBelow (λ n. headTree ps (lastOf n text) && headTree ps (lastOf n text ++ (x ∷ []))) (suc (length text)))
 
@@ -32,49 +34,63 @@ longestExtended ps text x = pred (lastBelow (λ n. headTree ps (lastOf n text) &
 unfoldable pub attempts : PatternSet → List ℤ → ℤ → ℕ
 attempts ps text x = length (select (λ n. leb (longestExtended ps text x) n && headTree ps (lastOf n text)) (tabulate (suc (length text)) (λ n. n)))
 
--- ---- one value: it goes to the end of the text, and the hits that end there are its hits
+-- of values that go to the end of the text one after the other
+unfoldable pub attemptsOn : PatternSet → List ℤ → List ℤ → ℕ
+attemptsOn ps text [] = 0
+attemptsOn ps text (x ∷ xs) = attempts ps text x + attemptsOn ps (text ++ (x ∷ [])) xs
 
-unfoldable pub append : PatternSet → List ℤ → ℤ → Stepped (List ℤ)
-append ps text x =
-    record { state = text ++ (x ∷ []); hits = map (λ j. (length text, j)) (lastHits ps (text ++ (x ∷ []))); attempts = attempts ps text x }
+-- ---- one call, after the text
 
--- an accepted call: while values are left and two words a pattern are free
-abbrev pub read : PatternSet → List ℤ → ℕ → List ℤ → Called (List ℤ)
-read ps text free xs = feed (append ps) (2 * length ps) text free xs
-
--- ---- all calls
-
--- the call is lent the set
+-- it is lent the set
 abbrev pub isLent : PatternSet → Call → Bool
 isLent ps c = begins (c .set) (setWords ps)
 
--- what is seen of a call under these conditions that does this where it is accepted
-abbrev pub seenOf : {S : Type 0} → PatternSet → Conditions → Called S → Call → Seen
-seenOf ps cs r c =
-    record { tells = cond (isLent ps c) (some (told (0, 0, 0, 0) (calledEntry cs r))) none; leaves = after (calledEntry cs r) (c .hits) }
+-- its refusal, where it is lent the set; 0 where it is accepted. 9 counts from the text, and 8
+-- never holds
+unfoldable pub refusalOf : PatternSet → List ℤ → Call → ℕ
+refusalOf ps text c =
+    cond (not (begins (c .automaton) (automatonWords ps))) 7
+    (cond (ltb 1048576 (length text + length (c .values))) 9 (cond (ltb (length (c .hits)) (2 * length ps)) 10 0))
 
--- a call lent another set is refused; of one lent the set the refusals that can concern it, where 9
--- counts from the text
-abbrev pub runConditions : PatternSet → List ℤ → Call → Conditions
-runConditions ps text c =
-    (1, not (isLent ps c)) ∷ (7, not (begins (c .automaton) (automatonWords ps))) ∷ (9, ltb 1048576 (length text + length (c .values))) ∷
-    (10, ltb (length (c .hits)) (2 * length ps)) ∷ []
+-- the values that an accepted call takes: while it has values left and two words a pattern are
+-- free, the next value goes to the end of the text, and each hit that ends there uses two words
+unfoldable pub taking : PatternSet → List ℤ → ℕ → List ℤ → List ℤ
+taking ps text free [] = []
+taking ps text free (x ∷ xs) =
+    let next = text ++ (x ∷ []) in
+    cond (leb (2 * length ps) free) (x ∷ taking ps next (free - 2 * length (lastHits ps next)) xs) []
 
--- what is seen of a call after the text, and the text after it
-unfoldable pub referenceCall : PatternSet → List ℤ → Call → Seen × List ℤ
-referenceCall ps text c =
-    let r = read ps text (length (c .hits)) (c .values) in
-    (seenOf ps (runConditions ps text c) r c, unless (firstMet (runConditions ps text c)) (r .state) text)
+-- the values that a call adds to the text: a refused one adds none, an accepted one has its whole
+-- hit array free
+unfoldable pub added : PatternSet → List ℤ → Call → List ℤ
+added ps text c = cond (isLent ps c && eqb (refusalOf ps text c) 0) (taking ps text (length (c .hits)) (c .values)) []
+
+-- the hits that fall on values that go to the end of the text, in the order of all hits
+unfoldable pub hitsOn : PatternSet → List ℤ → List ℤ → List (ℕ × ℕ)
+hitsOn ps text xs = select (λ h. leb (length text) (h .0)) (hits ps (text ++ xs))
+
+-- what is seen of it: with no values left it is ended, else full; it tells how many values it added
+-- and how many hits and attempts fall on them, and writes those hits
+unfoldable pub seenOf : PatternSet → List ℤ → Call → Seen
+seenOf ps text c =
+    let n = refusalOf ps text c in
+    let xs = added ps text c in
+    let hs = hitsOn ps text xs in
+    let ended : ℕ = cond (eqb n 0 && eqb (length xs) (length (c .values))) 1 0 in
+    let array = hitWords hs ++ drop (length (hitWords hs)) (c .hits) in
+    record { tells = cond (isLent ps c) (some (n, (ended, length xs, length hs, attemptsOn ps text xs))) none; leaves = array }
+
+-- ---- all calls
 
 -- what is seen of each call, from a text on
 unfoldable pub reference : PatternSet → List ℤ → List Call → List Seen
 reference ps text [] = []
-reference ps text (c ∷ cs) = referenceCall ps text c .0 ∷ reference ps (referenceCall ps text c .1) cs
+reference ps text (c ∷ cs) = seenOf ps text c ∷ reference ps (text ++ added ps text c) cs
 
--- the text that the calls take in all
+-- the text after all calls
 unfoldable pub taken : PatternSet → List ℤ → List Call → List ℤ
 taken ps text [] = text
-taken ps text (c ∷ cs) = taken ps (referenceCall ps text c .1) cs
+taken ps text (c ∷ cs) = taken ps (text ++ added ps text c) cs
 
 -- ---- what the state of a search over a text holds, from the text alone
 

@@ -3,3 +3,5 @@ pub mod Ring
 pub mod Minima
 pub mod Good
 pub mod Push
+pub mod Accepted
+pub mod Feed

@@ -39,8 +39,7 @@ isOld taken r = ltb 0 (r .minima) && leb (placeAt r 0 + 256) taken
 
 -- without it
 unfoldable pub aged : ℕ → Ring → Ring
-aged taken r =
-    cond (isOld taken r) (record { minima = r .minima - 1; first = slot r 1; places = r .places; values = r .values }) r
+aged taken r = cond (isOld taken r) (record { minima = r .minima - 1; first = slot r 1; places = r .places; values = r .values }) r
 
 -- how many open minima are not above the value: the others are closed
 unfoldable pub kept : Ring → ℤ → ℕ

@@ -1,39 +1,18 @@
 -- THE ANSWER of a stream search, for each way through the entry: the first refusal that is met, and
 -- else what the call does.
-use Rattle.lists.proofs.Prelude.{_≡_, _∙_, ap, sym, refl, Bool, true, false, cond, not, _&&_, _||_, List, [], _∷_, _++_, ℕ, suc, _+_, _*_, _≤_, _<_, ℤ, leb}
-use Rattle.lists.proofs.Prelude.{eqb, ltb, leb→le, ltb→lt, length, drop, lt-ltb, le-ltb, begins}
-use Rattle.lists.proofs.Tests.{T-true, true-T, and-split}
+use Rattle.lists.proofs.Prelude.{_≡_, _∙_, ap, sym, refl, Bool, true, false, cond, not, List, [], _∷_, _++_, ℕ, suc, _+_, _*_, _≤_, _<_, ℤ, leb, ltb, length}
+use Rattle.lists.proofs.Prelude.{drop, lt-ltb, le-ltb, begins}
 use Rattle.answers.specs.declared.SearchState.{SearchState}
 use Rattle.pattern_set.specs.PatternSet.{PatternSet, patternsOf, isSet, IsSet}
 use Rattle.matching.specs.Matching.{hitWords}
 use Rattle.entries.specs.Entries.{firstMet, unless, told, after, isUnsearchable, Counts, streamConditions, streamEntry, streamState}
-use Rattle.automaton_model.specs.Automaton.{nodes, headOf, automatonWords}
-use Rattle.search_model.specs.Ring.{goodRing}
-use Rattle.search_model.specs.Search.{ringOf, goodState, Called, call}
+use Rattle.automaton_model.specs.Automaton.{automatonWords}
+use Rattle.search_model.specs.Search.{goodState, Called, call}
 use Rattle.entries.proofs.Refusals.{met, unmet, leftBy}
 use Rattle.entries.proofs.Searchable.{broken-searchable, empty-unsearchable, filled-searchable, is-broken, not-broken}
 use Rattle.stream_call.specs.declared.Taken.{Taken}
 use Rattle.stream_call.specs.Taken.{IsTaken}
 use Rattle.matching.proofs.HitWords.{length-hitWords}
-
--- what is known of an accepted state
-pub record Accepted (ps : PatternSet) (st : SearchState) : Type 0 where
-  pub node : st .node < length (nodes ps)
-  pub taken : st .taken ≤ 1048576
-  pub ring : goodRing (st .taken) (ringOf st) ≡ true
-
-pub accepted : (ps : PatternSet) (st : SearchState) → goodState ps st ≡ true → Accepted ps st
-unfolding goodState
-accepted ps st e =
-    let node = ltb (st .node) (length (nodes ps)) in
-    let deep = leb (length (headOf ps (st .node))) (st .taken) in
-    let few = leb (st .taken) 1048576 in
-    let ring = goodRing (st .taken) (ringOf st) in
-    let all = and-split (node && deep && few && ring) (ltb 0 (st .minima) || eqb (st .taken) 0) (T-true (goodState ps st) e) in
-    let a = and-split (node && deep && few) ring (all .0) in
-    let b = and-split (node && deep) few (a .0) in
-    let c = and-split node deep (b .0) in
-    record { node = ltb→lt (st .node) (length (nodes ps)) (c .0); taken = leb→le (st .taken) 1048576 (b .1); ring = true-T ring (a .1) }
 
 module _ (ws automaton : List ℕ) (st : SearchState) (xs : List ℤ) (out : List ℕ) where
   abbrev ps : PatternSet

@@ -1,5 +1,6 @@
 // Reading and comparing arrays.
-ghost use Rattle.lists.specs.Prelude.{_≡_, _≤_, _<_, length};
+ghost use Rattle.lists.specs.Prelude.{_≡_, min, _≤_, _<_, eqb, length, getD};
+ghost use Rattle.test_inputs.specs.Arrays.{eqZ, alike as alikeBy, heldUntil};
 
 // What arrays hold before an entry writes to them.
 pub const BEFORE: u32 = 4000000007;
@@ -13,7 +14,7 @@ pub fn wide(x: u32) -> usize
 
 // The word at a place; 0 behind the end.
 pub fn number(s: &[u32], i: usize) -> usize
-    ensures { λ r. ⌜ r < 4294967296 ⌝ }
+    ensures { λ r. ⌜ (r ≡ getD (now (s .entry)) i 0) × (r < 4294967296) ⌝ }
 {
     if i < s.len() {
         return wide(s[i]);
@@ -42,14 +43,14 @@ pub fn narrow(x: usize) -> u32
 
 // The smaller one.
 pub fn smaller(a: usize, b: usize) -> usize
-    ensures { λ r. ⌜ (r ≤ a) × (r ≤ b) ⌝ }
+    ensures { λ r. ⌜ (r ≤ a) × (r ≤ b) × (r ≡ min a b) ⌝ }
 {
     if a < b { a } else { b }
 }
 
 // How many words two arrays begin with alike.
 pub fn alike(a: &[u32], b: &[u32]) -> usize
-    ensures { λ r. ⌜ (r ≤ length (now (a .entry))) × (r ≤ length (now (b .entry))) ⌝ }
+    ensures { λ r. ⌜ (r ≤ length (now (a .entry))) × (r ≤ length (now (b .entry))) × (r ≡ alikeBy eqb (now (a .entry)) (now (b .entry))) ⌝ }
 {
     let n = smaller(a.len(), b.len());
     let mut i = 0;
@@ -64,7 +65,7 @@ pub fn alike(a: &[u32], b: &[u32]) -> usize
 
 // How many values two arrays begin with alike.
 pub fn alike_values(a: &[i32], b: &[i32]) -> usize
-    ensures { λ r. ⌜ (r ≤ length (now (a .entry))) × (r ≤ length (now (b .entry))) ⌝ }
+    ensures { λ r. ⌜ (r ≤ length (now (a .entry))) × (r ≤ length (now (b .entry))) × (r ≡ alikeBy eqZ (now (a .entry)) (now (b .entry))) ⌝ }
 {
     let n = smaller(a.len(), b.len());
     let mut i = 0;
@@ -79,7 +80,7 @@ pub fn alike_values(a: &[i32], b: &[i32]) -> usize
 
 // The first place from the given one on that does not hold v; the length where there is none.
 pub fn held_until(a: &[u32], from: usize, v: u32) -> usize
-    ensures { λ r. ⌜ r ≤ length (now (a .entry)) ⌝ }
+    ensures { λ r. ⌜ (r ≤ length (now (a .entry))) × (r ≡ heldUntil (now (a .entry)) from v) ⌝ }
 {
     let mut i = smaller(from, a.len());
     while i < a.len() {

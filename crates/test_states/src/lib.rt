@@ -1,11 +1,13 @@
 // States of a search: compared, changed, and held against what they must be after a front of a
 // text.
-ghost use Rattle.lists.specs.Prelude.{_≡_, _<_};
+ghost use Rattle.lists.specs.Prelude.{_≡_, true, _<_};
+ghost use Rattle.test_differences.specs.Difference.{isNothing, firstOf, comparedWords};
+ghost use Rattle.test_states.specs.States.{comparedNumbers, comparedSlotValues, comparedStates};
 use answers::SearchState;
+use test_differences::difference;
+use test_differences::difference::Difference;
+use test_differences::difference::Part;
 use test_inputs::arrays;
-use test_inputs::difference;
-use test_inputs::difference::Difference;
-use test_inputs::difference::Part;
 
 // The open minima that were looked for, and what differs in their slots.
 struct Open {
@@ -132,7 +134,9 @@ pub fn expect_after(
     automaton: &[u32],
     text: &[i32],
     taken: usize,
-) -> Difference {
+) -> Difference
+    ensures { λ r. ⌜ (isNothing r ≡ true → state .taken ≡ taken) ⌝ }
+{
     let count = difference::expect_size(Part::Taken, taken, arrays::wide(state.taken));
     if !difference::is_none(count) {
         return count;
@@ -145,22 +149,28 @@ pub fn expect_after(
 }
 
 // The values of slots, held against those expected.
-fn expect_slot_values(expected: &[i32; 256], got: &[i32; 256]) -> Difference {
+fn expect_slot_values(expected: &[i32; 256], got: &[i32; 256]) -> Difference
+    ensures { λ r. ⌜ r ≡ comparedSlotValues (now (expected .entry)) (now (got .entry)) ⌝ }
+{
     let i = arrays::alike_values(expected, got);
     if i >= 256 {
-        return difference::none();
+        return Difference::Nothing;
     }
     difference::expect_value(i, expected[i], got[i])
 }
 
 // The slots of a state, held against those expected.
-fn expect_slots(p: &[u32; 256], q: &[u32; 256], v: &[i32; 256], w: &[i32; 256]) -> Difference {
+fn expect_slots(p: &[u32; 256], q: &[u32; 256], v: &[i32; 256], w: &[i32; 256]) -> Difference
+    ensures { λ r. ⌜ r ≡ firstOf (comparedWords (now (p .entry)) (now (q .entry))) (comparedSlotValues (now (v .entry)) (now (w .entry))) ⌝ }
+{
     let places = difference::expect_words(p, q);
     difference::first(places, expect_slot_values(v, w))
 }
 
 // The numbers of a state, held against those expected.
-fn expect_numbers(expected: SearchState, got: SearchState) -> Difference {
+fn expect_numbers(expected: SearchState, got: SearchState) -> Difference
+    ensures { λ r. ⌜ r ≡ comparedNumbers expected got ⌝ }
+{
     let taken = difference::expect(Part::Taken, expected.taken as u64, got.taken as u64);
     let node = difference::expect(Part::Node, expected.node as u64, got.node as u64);
     let minima = difference::expect(Part::Minima, expected.minima as u64, got.minima as u64);
@@ -171,8 +181,11 @@ fn expect_numbers(expected: SearchState, got: SearchState) -> Difference {
     )
 }
 
-// A state, held against the one expected, to the last slot.
-pub fn expect_same(expected: SearchState, got: SearchState) -> Difference {
+// A state, held against the one expected, to the last slot. Nothing differs exactly if it is that
+// one.
+pub fn expect_same(expected: SearchState, got: SearchState) -> Difference
+    ensures { λ r. ⌜ (r ≡ comparedStates expected got) × (isNothing r ≡ true → expected ≡ got) × (expected ≡ got → isNothing r ≡ true) ⌝ }
+{
     let p = expected.places;
     let q = got.places;
     let v = expected.values;

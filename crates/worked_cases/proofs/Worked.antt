@@ -4,7 +4,7 @@ use Rattle.lists.proofs.Prelude.{_≡_, ap, refl, ap₂, Bool, true, false, _&&
 use Rattle.lists.proofs.Prelude.{select, same}
 use Rattle.lists.proofs.Tests.{and-split}
 use Rattle.cartesian.specs.Cartesian.{size, leftmostFrom, leftmost, treeWithin, tree, sameTree, distanceAt, distances, cutFrom, rootPlace, treeOfWithin, treeOf}
-use Rattle.realization.specs.Realization.{walk, realizable, leftTurns, leastRealization, failureLength, failureLengths}
+use Rattle.realization.specs.Realization.{realizable, leftTurns, leastRealization, failureLength, failureLengths}
 use Rattle.global_parents.specs.GlobalParents.{lastLeftChild, isPrefixChild, globalParent, globalParents}
 use Rattle.ranking.specs.Rank.{factorial, rankFrom, unrank, isRank}
 use Rattle.matching.specs.Matching.{hasTree, numbersFrom, endHits, hitsAt, hits, hitWords}
@@ -56,6 +56,6 @@ all-hold (c ∷ cs) t =
 
 pub worked : AllHold table
 unfolding table hold alike equal tabulate lastBelow any select same flatten size leftmostFrom leftmost treeWithin tree sameTree distanceAt distances cutFrom
-    rootPlace treeOfWithin treeOf walk realizable leftTurns leastRealization failureLength failureLengths lastLeftChild isPrefixChild globalParent globalParents
+    rootPlace treeOfWithin treeOf realizable leftTurns leastRealization failureLength failureLengths lastLeftChild isPrefixChild globalParent globalParents
     factorial rankFrom unrank isRank hasTree numbersFrom endHits hitsAt hits hitWords
 worked = all-hold table tt

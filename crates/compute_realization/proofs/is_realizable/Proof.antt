@@ -1,7 +1,9 @@
 -- The walk over the whole list answers what the walk from place i on answers with what is open
 -- there, as long as every distance before i leads to an open place.
-use Rattle.lists.proofs.Prelude.{_≡_, _∙_, sym, refl, _-_, _≤_, drop, arith, not-false, not-true, below-more, below-none, needs}
-use Rattle.realization.specs.Realization.{walk, realizable}
+use Rattle.lists.proofs.Prelude.{_≡_, _∙_, sym, _-_, _≤_, drop, arith, not-false, not-true, below-more, below-none, needs}
+use Rattle.realization.specs.Realization.{realizable}
+use Rattle.realization.specs.Walk.{walk}
+use Rattle.realization.proofs.Walk.{realizable-walk}
 use Rattle.compute_realization.specs.OpenDistances.{openDistances, Led}
 use Rattle.compute_realization.proofs.OpenDistances.{walk-on, walk-stop, walk-end}
 use Rattle.compute_realization.proofs.is_realizable.Statement.{statement}
@@ -14,8 +16,8 @@ abbrev μ-loop : tie.MeasureT-loop
 μ-loop ds n i₀ i = n - i
 
 loop-holds : tie.Need-loop-holds Inv-loop μ-loop
-unfolding realizable openDistances
-loop-holds c = (omega arith, below-none _, refl)
+unfolding openDistances
+loop-holds c = (omega arith, below-none _, realizable-walk _)
 
 leads-back-requires : tie.Need-leads-back-requires Inv-loop μ-loop
 leads-back-requires c κs = (omega arith, c .before .loop .inv .1)

@@ -26,7 +26,7 @@ returns : tie.Need-returns
 returns c = λ r h.
     let a = c .before .before .before .before .args in
     c .common .ensures r h
-    ∙ ap (λ (k : ℕ). bitAt (getD (a .low .now) (k % 256) 0) r && bitAt (getD (a .high .now) (k / 256) 0) r) (c .before .before .before .wide .ensures)
+    ∙ ap (λ (k : ℕ). bitAt (getD (a .lowbyte .now) (k % 256) 0) r && bitAt (getD (a .highbyte .now) (k / 256) 0) r) (c .before .before .before .wide .ensures)
 
 pub by-fingerprint-spec : {M : Type 1} → statement M
 by-fingerprint-spec =

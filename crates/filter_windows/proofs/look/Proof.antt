@@ -14,13 +14,14 @@ returns : tie.Need-returns
 returns c =
     let f = c .before .by-fingerprint in
     let a = c .before .before .args in
-    looked-none (a .low .now) (a .high .now) (a .fits .now) (a .fingerprint) (a .p) (f .result) (f .ensures) (c .if1 .taken)
+    looked-none (a .lowbyte .now) (a .highbyte .now) (a .fits .now) (a .fingerprint) (a .p) (f .result) (f .ensures) (c .if1 .taken)
 
 returns-2 : tie.Need-returns-2
 returns-2 c =
     let f = c .before .before .by-fingerprint in
     let a = c .before .before .before .args in
-    looked-fitting (a .low .now) (a .high .now) (a .fits .now) (a .fingerprint) (a .p) (f .result) (f .ensures) (c .fitting .result) (c .fitting .ensures)
+    looked-fitting (a .lowbyte .now) (a .highbyte .now) (a .fits .now) (a .fingerprint) (a .p) (f .result) (f .ensures)
+    (c .fitting .result) (c .fitting .ensures)
 
 pub look-spec : {M : Type 1} → statement M
 look-spec = tie.close (tie.spec by-fingerprint-requires fitting-requires returns returns-2)

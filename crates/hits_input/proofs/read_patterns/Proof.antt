@@ -6,7 +6,7 @@ use Rattle.hits_input.proofs.read_patterns.Statement.{statement}
 use Rattle.hits_input.proofs.read_patterns.Tie as tie
 
 abbrev Inv-loop : tie.InvT-loop
-Inv-loop bytes values₀ ends₀ n start₀ count₀ filled₀ values ends start count filled = Reading bytes values ends start count filled
+Inv-loop bytes values₀ ends₀ n start₀ count₀ filled₀ values ends start count filled = Reading bytes values₀ ends₀ values ends start count filled
 
 abbrev μ-loop : tie.MeasureT-loop
 μ-loop bytes values₀ ends₀ n start₀ count₀ filled₀ values ends start count filled = length bytes - start

@@ -2,7 +2,7 @@
 -- does the open minima decide.
 use Rattle.lists.proofs.Prelude.{_∙_, sym, arith, not-false, not-true, needs}
 use Rattle.pattern_set.specs.PatternSet.{patternsOf}
-use Rattle.stream_search.proofs.Accepted.{state-outside, state-deep, state-long, state-empty, state-minima}
+use Rattle.search_model.proofs.Accepted.{state-outside, state-deep, state-long, state-empty, state-minima}
 use Rattle.stream_search.proofs.state_is_good.Statement.{statement}
 use Rattle.stream_search.proofs.state_is_good.Tie as tie
 

@@ -9,7 +9,8 @@ use Rattle.pattern_set.specs.PatternSet.{patternsOf, IsSet}
 use Rattle.set_access.proofs.Laws.{count-le}
 use Rattle.automaton_lookup.specs.Made.{Whole}
 use Rattle.stream_search.proofs.Begun.{begun}
-use Rattle.stream_search.proofs.Entries.{Accepted, accepted, broken, empty, other, state-bad, too-long, too-short, answered}
+use Rattle.search_model.proofs.Accepted.{Accepted, accepted}
+use Rattle.stream_search.proofs.Entries.{broken, empty, other, state-bad, too-long, too-short, answered}
 use Rattle.stream_search.proofs.stream_search.Statement.{statement}
 use Rattle.stream_search.proofs.stream_search.Tie as tie
 

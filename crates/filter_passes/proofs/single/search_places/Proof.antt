@@ -1,12 +1,15 @@
 -- The loop keeps where the pass stands; what it has written and the words of the hits from place p
 -- on make the list.
-use Rattle.lists.proofs.Prelude.{_≡_, _∙_, ap, subst, ⊎-elim, List, ℕ, suc, _+_, _-_, _/_, length, take, sets, arith, needs}
+use Rattle.lists.proofs.Prelude.{_≡_, _∙_, ap, refl, ⊎-elim, List, ℕ, suc, _+_, _-_, _/_, _≤_, length, take, sets, arith, needs}
 use Rattle.matching.specs.Matching.{hits, hitWords, shortest, isCandidate}
 use Rattle.bit_sets.proofs.Laws.{size-le}
 use Rattle.pattern_set.specs.PatternSet.{patternsOf}
 use Rattle.pattern_set.proofs.IsSet.{set-good}
-use Rattle.filter_windows.specs.Looks.{SetOf}
-use Rattle.filter_windows.proofs.Lookups.{set-fingerprint-length, own-fingerprint-lt, looked-candidates}
+use Rattle.filter_plan.specs.Plan.{textFingerprint}
+use Rattle.filter_plan.proofs.Fingerprints.{textFingerprint-bytes}
+use Rattle.filter_windows.specs.Looks.{SetOf, Looked}
+use Rattle.filter_windows.proofs.Rolling.{fingerprint-rolled}
+use Rattle.filter_windows.proofs.Lookups.{set-fingerprint-length, own-fingerprint-lt, looked-fitting, looked-none, looked-candidates}
 use Rattle.filter_passes.specs.Passes.{restHits}
 use Rattle.filter_passes.proofs.Places.{no-candidate-hit}
 use Rattle.filter_passes.proofs.Lists.{hits-all, hits-end, rest-none}
@@ -16,27 +19,54 @@ use Rattle.filter_passes.proofs.single.search_places.Statement.{stateme
 use Rattle.filter_passes.proofs.single.search_places.Tie as tie
 
 abbrev Inv-loop : tie.InvT-loop
-Inv-loop set text setlow sethigh ownlow ownhigh fits numbers parents out₀ b n own₀ count₀ to₀ p₀ out own count to p =
-    Scan (patternsOf set) text p own count × Written out₀ out 0 to (restHits (patternsOf set) text 0) (restHits (patternsOf set) text p)
+Inv-loop set text setlow sethigh ownlow ownhigh fits numbers parents out₀ b n fingerprint₀ own₀ count₀ to₀ p₀ out fingerprint own count to p =
+    Scan (patternsOf set) text b p fingerprint own count × Written out₀ out 0 to (restHits (patternsOf set) text 0) (restHits (patternsOf set) text p)
 
 abbrev μ-loop : tie.MeasureT-loop
-μ-loop set text setlow sethigh ownlow ownhigh fits numbers parents out₀ b n own₀ count₀ to₀ p₀ out own count to p = n - p
+μ-loop set text setlow sethigh ownlow ownhigh fits numbers parents out₀ b n fingerprint₀ own₀ count₀ to₀ p₀ out fingerprint own count to p = n - p
 
--- what the look finds are the candidates of place p
-here : (c : tie.After-candidates-at Inv-loop μ-loop) →
-    let L = c .before .before .before in
+-- the set fingerprint is of 1 to 17 values
+b-length : (c : tie.After-shortest-length Inv-loop μ-loop) → (1 ≤ c .shortest-length .result) × (c .shortest-length .result ≤ 17)
+b-length c =
+    let s = c .before .before .before .before in
+    let set = s .args .set .now in
+    set-fingerprint-length (patternsOf set) (c .shortest-length .result) (set-good set (s .pre .0)) (c .shortest-length .ensures)
+
+-- both fingerprints are those of place p
+rolled : (c : tie.After-roll2 Inv-loop μ-loop) →
+    let L = c .before .before .before .before in
+    let b = L .before in
+    let front = take (suc (L .loop .p)) (b .before .before .before .before .args .text .now) in
+    (c .before .roll .result ≡ textFingerprint (b .shortest-length .result) front) × (c .roll2 .result ≡ textFingerprint 17 front)
+rolled c =
+    let r = c .before in
+    let bit = r .before .new-bit in
+    let t = r .before .before in
+    let L = t .before .loop in
+    let b = t .before .before in
+    let text = b .before .before .before .before .args .text .now in (
+      fingerprint-rolled (b .shortest-length .result) text (L .p) (L .fingerprint) (bit .result) (r .roll .result)
+          (b-length b .0) (t .loop-test .taken) (L .inv .0 .ofSet) (bit .ensures .0) (r .roll .ensures),
+      fingerprint-rolled 17 text (L .p) (L .own) (bit .result) (c .roll2 .result)
+          (omega arith) (t .loop-test .taken) (L .inv .0 .ofOwn) (bit .ensures .0) (c .roll2 .ensures),
+    )
+
+-- what the tables have for the set fingerprint and for place p are its candidates
+here : (c : tie.After-by-set-fingerprint Inv-loop μ-loop) (found : ℕ) →
+    let L = c .before .before .before .before .before in
     let a = L .before .before .before .before .before .args in
     let ps = patternsOf (a .set .now) in
-    SetOf ps (isCandidate (shortest 17 ps) (take (suc (L .loop .p)) (a .text .now))) (c .candidates-at .result)
-here c =
+    Looked (a .setlow .now) (a .sethigh .now) (a .fits .now) (c .before .before .roll .result) (L .loop .p) found
+    → SetOf ps (isCandidate (shortest 17 ps) (take (suc (L .loop .p)) (a .text .now))) found
+here c found looked =
     let o = c .before in
-    let t = o .before in
-    let b = t .before .before .shortest-length in
-    let s = t .before .before .before .before .before .before in
+    let t = o .before .before .before in
+    let b = t .before .before in
+    let s = b .before .before .before .before in
     let a = s .args in
     looked-candidates (patternsOf (a .set .now)) (a .text .now) (t .before .loop .p) (set-good (a .set .now) (s .pre .0)) (t .loop-test .taken)
-    (a .setlow .now) (a .sethigh .now) (a .fits .now) (o .own-next .result) (b .result) (c .candidates-at .result)
-    (s .pre .1 .1 .0) (b .ensures) (o .own-next .ensures) (c .candidates-at .ensures)
+    (a .setlow .now) (a .sethigh .now) (a .fits .now) (o .before .roll .result) (b .shortest-length .result) found
+    (s .pre .1 .1 .0) (b .shortest-length .ensures) (rolled o .0) looked
 
 shortest-length-requires : tie.Need-shortest-length-requires Inv-loop μ-loop
 shortest-length-requires c κs = search needs
@@ -45,41 +75,60 @@ loop-holds : tie.Need-loop-holds Inv-loop μ-loop
 loop-holds c =
     let a = c .before .before .before .before .args in
     let ps = patternsOf (a .set .now) in
-    (scan-start ps (a .text .now), written-start (a .out .now) 0 (restHits ps (a .text .now) 0))
+    (scan-start ps (a .text .now) (c .shortest-length .result), written-start (a .out .now) 0 (restHits ps (a .text .now) 0))
 
-own-next-requires : tie.Need-own-next-requires Inv-loop μ-loop
-own-next-requires c κs = (c .loop-test .taken, c .before .loop .inv .0 .fingerprint)
+new-bit-requires : tie.Need-new-bit-requires Inv-loop μ-loop
+new-bit-requires c κs = search needs
 
-candidates-at-requires : tie.Need-candidates-at-requires Inv-loop μ-loop
-candidates-at-requires c κs =
+roll-requires : tie.Need-roll-requires Inv-loop μ-loop
+roll-requires c κs =
     let L = c .before .before in
-    let b = L .before .shortest-length in
-    let s = L .before .before .before .before .before in
-    let a = s .args in
-    let length = set-fingerprint-length (patternsOf (a .set .now)) (b .result) (set-good (a .set .now) (s .pre .0)) (b .ensures) in
-    (omega (arith, c .own-next .ensures, own-fingerprint-lt (take (suc (L .loop .p)) (a .text .now))), length .0, length .1)
+    let b = L .before in
+    let l = b-length b in
+    let front = take (L .loop .p) (b .before .before .before .before .args .text .now) in
+    let bytes = textFingerprint-bytes (b .shortest-length .result) front (l .0) (l .1) in
+    (omega (arith, L .loop .inv .0 .ofSet, bytes), c .new-bit .ensures .1, omega (arith, l .0), omega (arith, l .1))
+
+roll-requires-2 : tie.Need-roll-requires-2 Inv-loop μ-loop
+roll-requires-2 c κs =
+    let L = c .before .before .before in
+    let front = take (L .loop .p) (L .before .before .before .before .before .args .text .now) in
+    (omega (arith, L .loop .inv .0 .ofOwn, own-fingerprint-lt front), c .before .new-bit .ensures .1, omega arith, omega arith)
+
+by-set-fingerprint-requires : tie.Need-by-set-fingerprint-requires Inv-loop μ-loop
+by-set-fingerprint-requires c κs =
+    let L = c .before .before .before .before in
+    let b = L .before in
+    let l = b-length b in
+    let front = take (suc (L .loop .p)) (b .before .before .before .before .args .text .now) in
+    omega (arith, rolled c .0, textFingerprint-bytes (b .shortest-length .result) front (l .0) (l .1))
+
+fitting-requires : tie.Need-fitting-requires Inv-loop μ-loop
+fitting-requires c κs = search needs
 
 size-requires : tie.Need-size-requires Inv-loop μ-loop
 size-requires c κs = search needs
 
 add-count : tie.Need-add-count Inv-loop μ-loop
 add-count c =
-    let d = c .before .before in
-    let L = d .before .before .before in
+    let f = c .before in
+    let d = f .before .before in
+    let L = d .before .before .before .before .before in
     let scan = L .loop .inv .0 in
     let s = L .before .before .before .before .before in
-    omega (arith, s .pre .1 .0 .0, scan .bound, scan .inside, c .size .ensures, size-le (d .candidates-at .result) (d .candidates-at .ok))
+    omega (arith, s .pre .1 .0 .0, scan .bound, scan .inside, c .size .ensures, size-le (f .fitting .result) (f .fitting .ok))
 
 hits-at-requires : tie.Need-hits-at-requires Inv-loop μ-loop
 hits-at-requires c κs =
-    let o = c .before .before .before in
-    let s = o .before .before .before .before .before .before .before in
-    (s .pre .0, ((o .before .loop-test .taken, o .own-next .ensures), s .pre .1 .1 .1))
+    let o = c .before .before .before .before in
+    let t = o .before .before .before in
+    let s = t .before .before .before .before .before .before in
+    (s .pre .0, ((t .loop-test .taken, rolled o .1), s .pre .1 .1 .1))
 
 write-place-requires : tie.Need-write-place-requires Inv-loop μ-loop
 write-place-requires c κs =
     let h = c .before in
-    let t = h .before .before .before .before .before in
+    let t = h .before .before .before .before .before .before .before .before in
     let L = t .before .loop in
     let s = t .before .before .before .before .before .before in
     let a = s .args in
@@ -102,28 +151,37 @@ loop-again : tie.Need-loop-again Inv-loop μ-loop
 loop-again c =
     let d = c .before in
     let o = d .before in
-    let t = o .before in
+    let next = rolled o in
+    let t = o .before .before .before in
     let L = t .before .loop in
+    let b = t .before .before .shortest-length .result in
     let s = t .before .before .before .before .before .before in
     let a = s .args in
     let ps = patternsOf (a .set .now) in
     let text = a .text .now in
     let good = set-good (a .set .now) (s .pre .0) in
-    let found = d .candidates-at in
+    let r = o .before .roll .result in
+    let alike = d .by-set-fingerprint in
     let all = restHits ps text 0 in
     ⊎-elim
-    -- the place has candidates: they are counted, and its hits are written
-    (λ w. let hit = w .2 in
-    let e = w .4 .ensures in (
-      scan-next ps text (L .p) (L .own) (L .count) (o .own-next .result) (c .if1 .count) (found .result) good (t .loop-test .taken)
-          (L .inv .0) (o .own-next .ensures) (here d) (found .ok) (w .8 ∙ ap (λ (n : ℕ). L .count + n) (w .1 .ensures)),
+    -- patterns have the fingerprint: the candidates are counted, and the hits are written
+    (λ w. let fits = w .1 in
+    let looked =
+    looked-fitting (a .setlow .now) (a .sethigh .now) (a .fits .now) r (L .p) (alike .result) (alike .ensures) (fits .result) (fits .ensures) in
+    let hit = w .3 in
+    let e = w .5 .ensures in (
+      scan-next ps text b (L .p) (L .fingerprint) (L .own) (L .count) r (o .roll2 .result) (c .if1 .count) (fits .result)
+          good (t .loop-test .taken) (L .inv .0) (next .0) (next .1) (here d (fits .result) looked) (fits .ok)
+          (w .9 ∙ ap (λ (n : ℕ). L .count + n) (w .2 .ensures)),
       place-written ps text (L .p) (length text) (t .loop-test .taken) good (a .numbers .now) (hit .result) (s .pre .1 .1 .1 .check .ranks)
-          (hit .ensures) (a .out .now) (L .out) 0 (L .to) all (L .inv .1) (c .if1 .out) (c .if1 .to) (w .7 ∙ e .1) (w .9 ∙ e .0),
+          (hit .ensures) (a .out .now) (L .out) 0 (L .to) all (L .inv .1) (c .if1 .out) (c .if1 .to) (w .8 ∙ e .1) (w .10 ∙ e .0),
     ))
-    -- it has none, so it has no hit
-    (λ w. let none = subst (SetOf ps (isCandidate (shortest 17 ps) (take (suc (L .p)) text))) (w .0 .left) (here d) in (
-      scan-pass ps text (L .p) (L .own) (L .count) (o .own-next .result) (c .if1 .count) (found .result) good (t .loop-test .taken)
-          (L .inv .0) (o .own-next .ensures) (here d) (w .0 .left) (w .2),
+    -- none has it, so the place has no hit
+    (λ w. let looked =
+    looked-none (a .setlow .now) (a .sethigh .now) (a .fits .now) r (L .p) (alike .result) (alike .ensures) (w .0 .left) in
+    let none = here d 0 looked in (
+      scan-pass ps text b (L .p) (L .fingerprint) (L .own) (L .count) r (o .roll2 .result) (c .if1 .count) 0
+          good (t .loop-test .taken) (L .inv .0) (next .0) (next .1) none refl (w .2),
       written-none (a .out .now) (L .out) 0 (L .to) all (restHits ps text (L .p)) (L .inv .1) (c .if1 .out) (c .if1 .to)
           (restHits ps text (L .p + 1)) (rest-none ps text (L .p) (t .loop-test .taken) (no-candidate-hit ps text (L .p) good none)) (w .1) (w .3),
     ))
@@ -139,13 +197,14 @@ returns c =
     let ps = patternsOf (a .set .now) in
     let text = a .text .now in
     let L = c .before .loop in
+    let b = c .before .before .shortest-length .result in
     let none = hits-end ps text (L .p) (length text) (c .loop-test .left) in
     let all = hits-all ps text in
     let e = written-end (a .out .now) (L .out) 0 (L .to) (restHits ps text 0) (restHits ps text (L .p)) (L .inv .1) none in
     let half : L .to / 2 ≡ length (hits ps text) = omega (arith, e .0, ap length all) in (
       half,
       (
-        scan-end ps text (L .p) (L .own) (L .count) (L .inv .0) (c .loop-test .left),
+        scan-end ps text b (L .p) (L .fingerprint) (L .own) (L .count) (L .inv .0) (c .loop-test .left),
         e .1 ∙ ap (λ (v : List (ℕ × ℕ)). sets (a .out .now) 0 (hitWords v)) all,
       ),
     )
@@ -158,8 +217,11 @@ search-places-spec =
     μ-loop
     shortest-length-requires
     loop-holds
-    own-next-requires
-    candidates-at-requires
+    new-bit-requires
+    roll-requires
+    roll-requires-2
+    by-set-fingerprint-requires
+    fitting-requires
     size-requires
     add-count
     hits-at-requires

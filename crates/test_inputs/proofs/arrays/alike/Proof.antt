@@ -1,10 +1,13 @@
--- `alike` is safe and ends.
-use Rattle.lists.proofs.Prelude.{_-_, _≤_, needs}
+-- `alike` meets its contract: what is counted up to a place, and how far the rest agrees, is the
+-- whole.
+use Rattle.lists.proofs.Prelude.{_≡_, _+_, _-_, _≤_, eqb, drop, zero-add, sym, eq-eqb, ne-eqb, arith, needs}
+use Rattle.test_inputs.specs.Arrays.{alike}
+use Rattle.test_inputs.proofs.Alike.{alike-more, alike-stop, alike-end}
 use Rattle.test_inputs.proofs.arrays.alike.Statement.{statement}
 use Rattle.test_inputs.proofs.arrays.alike.Tie as tie
 
 abbrev Inv-loop : tie.InvT-loop
-Inv-loop a b n i₀ i = i ≤ n
+Inv-loop a b n i₀ i = (i ≤ n) × (alike eqb a b ≡ i + alike eqb (drop i a) (drop i b))
 
 abbrev μ-loop : tie.MeasureT-loop
 μ-loop a b n i₀ i = n - i
@@ -13,7 +16,7 @@ smaller-requires : tie.Need-smaller-requires Inv-loop μ-loop
 smaller-requires c κs = search needs
 
 loop-holds : tie.Need-loop-holds Inv-loop μ-loop
-loop-holds c = search needs
+loop-holds c = (search needs, sym (zero-add _))
 
 mul-if1 : tie.Need-mul-if1 Inv-loop μ-loop
 mul-if1 c = search needs
@@ -28,7 +31,14 @@ shared-slice-read-if1-2 : tie.Need-shared-slice-read-if1-2 Inv-loop μ-loop
 shared-slice-read-if1-2 c = search needs
 
 returns : tie.Need-returns Inv-loop μ-loop
-returns c = search needs
+returns c =
+    let here = c .before .before .before .before in
+    let short = here .before .smaller .ensures in
+    let i<n = c .before .before .before .loop-test .taken in (
+      omega arith,
+      omega arith,
+      alike-stop eqb 0 _ _ _ (here .loop .inv .1) (omega arith) (omega arith) (ne-eqb _ _ (c .if1 .taken)),
+    )
 
 add-i : tie.Need-add-i Inv-loop μ-loop
 add-i c = search needs
@@ -37,10 +47,19 @@ loop-less : tie.Need-loop-less Inv-loop μ-loop
 loop-less c = search needs
 
 loop-again : tie.Need-loop-again Inv-loop μ-loop
-loop-again c = search needs
+loop-again c =
+    let here = c .before .before .before .before in
+    let short = here .before .smaller .ensures in
+    let i<n = c .before .before .before .loop-test .taken in (
+      omega arith,
+      alike-more eqb 0 _ _ _ (here .loop .inv .1) (omega arith) (omega arith) (eq-eqb _ _ (c .if1 .left)),
+    )
 
 returns-2 : tie.Need-returns-2 Inv-loop μ-loop
-returns-2 c = search needs
+returns-2 c =
+    let short = c .before .before .smaller .ensures in
+    let i≤n = c .before .loop .inv .0 in
+    (omega arith, omega arith, alike-end eqb _ _ _ (c .before .loop .inv .1) (omega arith))
 
 pub alike-spec : {M : Type 1} → statement M
 alike-spec =

@@ -1,0 +1,76 @@
+-- ACCEPTED STATES: what is known of one, and the check's tests, in their order, which decide
+-- whether a state is good.
+use Rattle.lists.proofs.Prelude.{_≡_, _∙_, ap, sym, refl, Bool, true, false, _&&_, _||_, _≤_, _<_, T, eqb, leb, ltb, leb→le, ltb→lt, length, le-leb, lt-leb}
+use Rattle.lists.proofs.Prelude.{lt-ltb, le-ltb}
+use Rattle.lists.proofs.Tests.{T-true, true-T, and-split, and-true, and-false}
+use Rattle.answers.specs.declared.SearchState.{SearchState}
+use Rattle.pattern_set.specs.PatternSet.{PatternSet}
+use Rattle.automaton_model.specs.Automaton.{nodes, headOf}
+use Rattle.search_model.specs.Ring.{goodRing}
+use Rattle.search_model.specs.Search.{ringOf, goodState}
+
+-- what is known of an accepted state
+pub record Accepted (ps : PatternSet) (st : SearchState) : Type 0 where
+  pub node : st .node < length (nodes ps)
+  pub depth : length (headOf ps (st .node)) ≤ st .taken
+  pub taken : st .taken ≤ 1048576
+  pub ring : goodRing (st .taken) (ringOf st) ≡ true
+  pub some : T (ltb 0 (st .minima) || eqb (st .taken) 0)
+
+module _ (ps : PatternSet) (st : SearchState) where
+  pub accepted : goodState ps st ≡ true → Accepted ps st
+  unfolding goodState
+  accepted e =
+      let node = ltb (st .node) (length (nodes ps)) in
+      let deep = leb (length (headOf ps (st .node))) (st .taken) in
+      let few = leb (st .taken) 1048576 in
+      let ring = goodRing (st .taken) (ringOf st) in
+      let all = and-split (node && deep && few && ring) (ltb 0 (st .minima) || eqb (st .taken) 0) (T-true (goodState ps st) e) in
+      let a = and-split (node && deep && few) ring (all .0) in
+      let b = and-split (node && deep) few (a .0) in
+      let c = and-split node deep (b .0) in
+      record {
+        node = ltb→lt (st .node) (length (nodes ps)) (c .0);
+        depth = leb→le (length (headOf ps (st .node))) (st .taken) (c .1);
+        taken = leb→le (st .taken) 1048576 (b .1);
+        ring = true-T ring (a .1);
+        some = all .1;
+      }
+
+  -- ---- states that are not good
+
+  -- its node is none of the automaton's
+  pub state-outside : length (nodes ps) ≤ st .node → false ≡ goodState ps st
+  unfolding goodState
+  state-outside h = rw (le-ltb (st .node) (length (nodes ps)) h) refl
+
+  -- its node is deeper than the values taken
+  pub state-deep : st .node < length (nodes ps) → st .taken < length (headOf ps (st .node)) → false ≡ goodState ps st
+  unfolding goodState
+  state-deep h d = rw (lt-ltb (st .node) (length (nodes ps)) h, lt-leb (length (headOf ps (st .node))) (st .taken) d) refl
+
+  -- more values are taken than a search takes
+  pub state-long : st .node < length (nodes ps) → length (headOf ps (st .node)) ≤ st .taken → 1048576 < st .taken → false ≡ goodState ps st
+  unfolding goodState
+  state-long h d l = rw (lt-ltb (st .node) (length (nodes ps)) h, le-leb (length (headOf ps (st .node))) (st .taken) d, lt-leb (st .taken) 1048576 l) refl
+
+  -- something is taken, and no minimum is open
+  pub state-empty : ltb 0 (st .minima) || eqb (st .taken) 0 ≡ false → false ≡ goodState ps st
+  unfolding goodState
+  state-empty e = sym (ap (λ (b : Bool). rest && b) e ∙ and-false rest)
+    where
+      rest : Bool
+      rest =
+          ltb (st .node) (length (nodes ps))
+          && leb (length (headOf ps (st .node))) (st .taken)
+          && leb (st .taken) 1048576
+          && goodRing (st .taken) (ringOf st)
+
+  -- the open minima decide
+  pub state-minima : st .node < length (nodes ps) → length (headOf ps (st .node)) ≤ st .taken → st .taken ≤ 1048576
+      → ltb 0 (st .minima) || eqb (st .taken) 0 ≡ true
+      → goodRing (st .taken) (ringOf st) ≡ goodState ps st
+  unfolding goodState
+  state-minima h d l e =
+      rw (lt-ltb (st .node) (length (nodes ps)) h, le-leb (length (headOf ps (st .node))) (st .taken) d, le-leb (st .taken) 1048576 l, e)
+      (sym (and-true (goodRing (st .taken) (ringOf st))))
