@@ -21,6 +21,7 @@
  *    9  the values bring the text past 1,048,576
  *   10  the lent array is too short (each function says for what)
  *   11  the list of a filter search does not fit its array
+ *   12  a catalogue is involved and the distance list is longer than 10
  */
 #ifndef FINDER_H
 #define FINDER_H
@@ -37,6 +38,14 @@ typedef struct {
     uint32_t refusal;
     size_t words;
 } FinderWritten;
+
+/* Refusal; 1 where the list is the last of its catalogue and 0 where it is not; how many words at the front of the array are the
+ * next list. */
+typedef struct {
+    uint32_t refusal;
+    uint32_t last;
+    size_t words;
+} FinderNextList;
 
 /* Refusal and code. */
 typedef struct {
@@ -95,6 +104,12 @@ FinderCode finder_encode(const uint32_t *distances, size_t n);
 
 /* Writes the n distances whose rank is the code. Refuses 1, 3, 4, 10 (room < n). */
 FinderWritten finder_decode(size_t n, uint64_t code, uint32_t *out, size_t room);
+
+/* Writes the next list in the catalogue of the n distances: of the lists of that length that some values have, in the order of
+ * the first distance that differs, smaller first, the one behind it. After the last one, 0, 1, .., n - 1, tells `last` and writes
+ * nothing, whatever the room. From n zeros on, each list of the catalogue is met once. Refuses 1, 2, 12, 4, 10 (there is a next
+ * list and room < n). Words behind the list are as they were. */
+FinderNextList finder_next_list(const uint32_t *distances, size_t n, uint32_t *out, size_t room);
 
 /* ---- sets of patterns, in an array of words */
 

@@ -49,18 +49,33 @@ def compare(language, expected, got):
             sys.exit("docs/API.md: the example in %s prints something else in line %d: expected %r, got %r" % (language, number, want, line))
 
 
+def run_c(name, source):
+    """What an example in C prints."""
+    program = os.path.join(FOLDER, name)
+    output(["cc", "-O2", "-Wall", "-Wextra", "-Werror", "-I", os.path.join(ROOT, "include"), write(name + ".c", source),
+            os.path.join(LIBRARY, "libfinder_c.a"), "-o", program])
+    return output([program])
+
+
+def run_rust(name, source):
+    """What an example in Rust prints."""
+    write(name + "/src/main.rs", source)
+    manifest = write(name + "/Cargo.toml", MANIFEST % os.path.join(ROOT, "rust"))
+    target = os.path.join(FOLDER, "target")
+    return output(["cargo", "run", "--offline", "--quiet", "--manifest-path", manifest], FINDER_LIB=LIBRARY, CARGO_TARGET_DIR=target)
+
+
 def main():
     with open(os.path.join(ROOT, "docs", "API.md")) as page:
-        blocks = dict(re.findall(r"^```(c|rust|text)\n(.*?)^```$", page.read(), re.M | re.S))
-    source = write("example.c", blocks["c"])
-    program = os.path.join(FOLDER, "example")
-    output(["cc", "-O2", "-Wall", "-Wextra", "-Werror", "-I", os.path.join(ROOT, "include"), source,
-            os.path.join(LIBRARY, "libfinder_c.a"), "-o", program])
-    write("rust/src/main.rs", blocks["rust"])
-    manifest = write("rust/Cargo.toml", MANIFEST % os.path.join(ROOT, "rust"))
-    compare("C", blocks["text"], output([program]))
-    compare("Rust", blocks["text"], output(["cargo", "run", "--offline", "--quiet", "--manifest-path", manifest], FINDER_LIB=LIBRARY))
-    print("docs/API.md: both examples print what the page says")
+        blocks = re.findall(r"^```(c|rust|text)\n(.*?)^```$", page.read(), re.M | re.S)
+    # an example is a block of C, what it prints, and a block of Rust that prints the same
+    if not blocks or [language for language, _ in blocks] != ["c", "text", "rust"] * (len(blocks) // 3):
+        sys.exit("docs/API.md: expected blocks of c, text and rust in turn, got: %s" % ", ".join(language for language, _ in blocks))
+    texts = [text for _, text in blocks]
+    for number, (in_c, expected, in_rust) in enumerate(zip(texts[::3], texts[1::3], texts[2::3]), 1):
+        compare("C, number %d" % number, expected, run_c("example%d" % number, in_c))
+        compare("Rust, number %d" % number, expected, run_rust("rust%d" % number, in_rust))
+    print("docs/API.md: all %d examples print what the page says" % (len(blocks) // 3 * 2))
 
 
 main()

@@ -1,20 +1,22 @@
 #!/usr/bin/env python3
-"""Makes the input of the test programs cases_patterns and cases_sets: cases for the entries on patterns (1 to 6) or on sets
-(7 to 9), with what each must give.
+"""Makes the input of the test programs cases_patterns and cases_sets: cases for the entries on patterns (1 to 6, and 10) or on
+sets (7 to 9), with what each must give.
 
 usage: entries.py patterns > crates/cases_patterns/stdin
        entries.py sets > crates/cases_sets/stdin
 
 What is expected is computed here in another way than in the finder: distances by their definition place by place,
 possible lists by building values for them, least values by raising values until they have the list, global parents from
-the tree of the least values, failure lengths by comparing distances of tails, codes by the sum. The seed is fixed, and all
-cases are made whichever are asked for.
+the tree of the least values, failure lengths by comparing distances of tails, codes by the sum, next lists by trying greater
+distances from the last place on, which is held to all possible lists of a length in order. The seed is fixed, and all cases are
+made whichever are asked for.
 """
 import random
 import sys
+from itertools import product
 from math import factorial
 
-ENTRIES = {"patterns": range(1, 7), "sets": range(7, 10)}
+ENTRIES = {"patterns": (*range(1, 7), 10), "sets": range(7, 10)}
 if len(sys.argv) != 2 or sys.argv[1] not in ENTRIES:
     sys.exit("usage: entries.py patterns|sets")
 
@@ -122,6 +124,32 @@ def unrank(n, c):
 def case_decode(n, c, room):
     r = first([(1, n == 0), (3, n > 20)]) or first([(4, c >= factorial(n) or least(unrank(n, c)) is None), (10, room < n)])
     cases.append([6, n, c, room, r, 0 if r else n, *after(r, unrank(n, c) if r == 0 else [], room)])
+
+
+def possible(n):
+    """All lists of n distances that some values have, in order: those that go on from the possible lists of n - 1."""
+    if n == 0:
+        return [[]]
+    return [ds + [d] for ds in possible(n - 1) for d in range(n) if least(ds + [d]) is not None]
+
+
+def next_list(ds):
+    """The first possible list behind this one, or none: the longest front that can stay, a greater distance, and zeros."""
+    for i in range(len(ds) - 1, -1, -1):
+        for d in range(ds[i] + 1, i + 1):
+            more = ds[:i] + [d] + [0] * (len(ds) - 1 - i)
+            if least(more) is not None:
+                return more
+    return []
+
+
+def case_next(ds, room):
+    n = len(ds)
+    r = first([(1, n == 0), (2, n > 256), (12, n > 10)]) or first([(4, least(ds) is None)])
+    result = [] if r else next_list(ds)
+    r = r or first([(10, room < len(result))])
+    last = int(r == 0 and not result)
+    cases.append([10, n, room, *ds, r, 0 if r else len(result), last, *after(r, result, room)])
 
 
 def set_words(patterns):
@@ -272,6 +300,30 @@ for _ in range(12):
     for _ in range(8):
         ws = case_add(ws, values(random.randint(0, 12), random.choice((1, 3, 1000))))
     case_check(ws)
+
+# ---- next lists: all of the lengths up to 7, those up to 6 held to the distances of all values; then longer ones, and refusals
+for n in range(1, 8):
+    lists = possible(n)
+    assert n > 6 or lists == sorted(map(list, {tuple(distances(xs)) for xs in product(range(n), repeat=n)}))
+    assert [next_list(ds) for ds in lists] == lists[1:] + [[]] and lists[0] == [0] * n and lists[-1] == list(range(n))
+    for ds in lists:
+        case_next(ds, n + random.randint(0, 2))
+for n in range(1, 11):
+    for ds in ([0] * n, list(range(n))):
+        for room in (0, n - 1, n, n + 3):
+            case_next(ds, room)
+for _ in range(200):
+    ds = distances(values(random.randint(8, 10), random.choice((1, 2, 5, 1000))))
+    case_next(ds, len(ds) + random.randint(-1, 2))
+    ds[random.randrange(len(ds))] = random.choice((1, 2, 3, len(ds), WORD))
+    case_next(ds, len(ds))
+for n in (0, 10, 11, 20, 21, 255, 256, 257):
+    for ds in ([0] * n, list(range(n)), [1] * n, [WORD] * n):
+        case_next(ds, 20)
+        case_next(ds, 0)
+for ds in ([0, 1, 2, 2], [1], [0, 2], [0, WORD], [0, 1, 1, 3, 2]):
+    case_next(ds, 0)
+    case_next(ds, len(ds))
 
 for c in cases:
     if c[0] in ENTRIES[sys.argv[1]]:

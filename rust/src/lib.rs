@@ -56,6 +56,8 @@ pub enum Refusal {
     ArrayTooShort = 10,
     /// The list of hits does not fit its array.
     ListTooLong = 11,
+    /// A catalogue is involved and the distance list is longer than 10.
+    CatalogueTooLong = 12,
 }
 
 impl Refusal {
@@ -63,7 +65,7 @@ impl Refusal {
         use Refusal::*;
         let all = [
             Empty, TooLong, CodeTooLong, NotRealizable, BrokenSet, SetFull, OtherAutomaton, BrokenState, TextTooLong,
-            ArrayTooShort, ListTooLong,
+            ArrayTooShort, ListTooLong, CatalogueTooLong,
         ];
         match number {
             0 => Ok(()),
@@ -163,6 +165,26 @@ pub fn decode(n: usize, code: u64) -> Result<Vec<u32>, Refusal> {
     let mut out = vec![0; n.min(20)];
     Refusal::check(raw::decode(n, code, &mut out).refusal)?;
     Ok(out)
+}
+
+/// The next list in the catalogue of a length, 1 to 10: all lists of so many distances that some values have, by the first
+/// distance that differs, smaller first. There is none after the last list. From zeros on each list is met once.
+///
+/// ```
+/// use finder::{next_list, Refusal};
+/// let mut catalogue = vec![vec![0; 3]];
+/// while let Some(next) = next_list(&catalogue[catalogue.len() - 1])? {
+///     catalogue.push(next);
+/// }
+/// assert_eq!(catalogue, [[0, 0, 0], [0, 0, 1], [0, 1, 0], [0, 1, 1], [0, 1, 2]]);
+/// assert_eq!(next_list(&[0; 11]), Err(Refusal::CatalogueTooLong));
+/// # Ok::<(), Refusal>(())
+/// ```
+pub fn next_list(distances: &[u32]) -> Result<Option<Vec<u32>>, Refusal> {
+    let mut out = vec![0; distances.len().min(10)];
+    let answer = raw::next_list(distances, &mut out);
+    Refusal::check(answer.refusal)?;
+    Ok(if answer.last == 1 { None } else { Some(out) })
 }
 
 /// A set of up to 64 patterns with up to 4,096 values in all.

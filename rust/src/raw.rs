@@ -10,6 +10,18 @@ pub struct Written {
     pub words: usize,
 }
 
+/// Refusal, whether the list is the last of its catalogue, and the words at the front of the array that are the next list.
+#[derive(Clone, Copy, Debug)]
+#[repr(C)]
+pub struct NextList {
+    /// Refusal.
+    pub refusal: u32,
+    /// 1 where there is no next list and 0 where there is.
+    pub last: u32,
+    /// Words written.
+    pub words: usize,
+}
+
 /// Refusal and code.
 #[derive(Clone, Copy, Debug)]
 #[repr(C)]
@@ -69,7 +81,7 @@ pub struct Streamed {
 }
 
 mod c {
-    use super::{Code, Counts, State, Streamed, Written};
+    use super::{Code, Counts, NextList, State, Streamed, Written};
     extern "C" {
         pub fn finder_distances(v: *const i32, n: usize, out: *mut u32, room: usize) -> Written;
         pub fn finder_least_realization(d: *const u32, n: usize, out: *mut i32, room: usize) -> Written;
@@ -77,6 +89,7 @@ mod c {
         pub fn finder_failure_lengths(d: *const u32, n: usize, out: *mut u32, room: usize) -> Written;
         pub fn finder_encode(d: *const u32, n: usize) -> Code;
         pub fn finder_decode(n: usize, code: u64, out: *mut u32, room: usize) -> Written;
+        pub fn finder_next_list(d: *const u32, n: usize, out: *mut u32, room: usize) -> NextList;
         pub fn finder_empty_set(out: *mut u32, room: usize) -> Written;
         pub fn finder_check_set(set: *const u32, n: usize) -> Counts;
         pub fn finder_add_pattern(set: *mut u32, n: usize, v: *const i32, m: usize) -> Counts;
@@ -123,6 +136,11 @@ pub fn encode(ds: &[u32]) -> Code {
 /// Distances of a length and a rank.
 pub fn decode(n: usize, code: u64, out: &mut [u32]) -> Written {
     unsafe { c::finder_decode(n, code, out.as_mut_ptr(), out.len()) }
+}
+
+/// Next list of a catalogue.
+pub fn next_list(ds: &[u32], out: &mut [u32]) -> NextList {
+    unsafe { c::finder_next_list(ds.as_ptr(), ds.len(), out.as_mut_ptr(), out.len()) }
 }
 
 /// The empty set.

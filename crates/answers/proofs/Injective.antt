@@ -2,13 +2,14 @@
 use Rattle.lists.proofs.Prelude.{_≡_, _∙_, ap, sym, refl, ℕ, zero, suc, _<_, arith}
 use Rattle.answers.specs.declared.Refusal.{Refusal}
 use Rattle.answers.specs.declared.Written.{Written}
+use Rattle.answers.specs.declared.NextList.{NextList}
 use Rattle.answers.specs.declared.Encoded.{Encoded}
 use Rattle.answers.specs.declared.SetSize.{SetSize}
 use Rattle.answers.specs.declared.Built.{Built}
 use Rattle.answers.specs.declared.Filtered.{Filtered}
 use Rattle.answers.specs.declared.StreamAnswer.{StreamAnswer}
 use Rattle.answers.specs.declared.Counts.{Counts}
-use Rattle.answers.specs.Told.{number, toldWritten, toldEncoded, toldSize, toldBuilt, toldFiltered, toldStreamed}
+use Rattle.answers.specs.Told.{number, toldWritten, toldNext, toldEncoded, toldSize, toldBuilt, toldFiltered, toldStreamed}
 use Rattle.answers.proofs.Refusals.{refusalOf, number-refusal, number-positive}
 
 -- a map that can be undone is injective
@@ -33,6 +34,19 @@ toldWritten-injective = undo toldWritten (λ (w : ℕ × ℕ). choose (w .0) (Wr
     back : (a : Written) → choose (toldWritten a .0) (Written.Words (toldWritten a .1)) Written.Refused ≡ a
     back (Written.Words n) = refl
     back (Written.Refused r) = choose-refused r (Written.Words 0) Written.Refused
+
+-- the last list or not
+abbrev chooseLast : ℕ → ℕ → NextList
+chooseLast zero n = NextList.Words n
+chooseLast (suc l) n = NextList.Last
+
+pub toldNext-injective : (a b : NextList) → toldNext a ≡ toldNext b → a ≡ b
+toldNext-injective = undo toldNext (λ (w : ℕ × (ℕ × ℕ)). choose (w .0) (chooseLast (w .1 .0) (w .1 .1)) NextList.Refused) back
+  where
+    back : (a : NextList) → choose (toldNext a .0) (chooseLast (toldNext a .1 .0) (toldNext a .1 .1)) NextList.Refused ≡ a
+    back (NextList.Words n) = refl
+    back NextList.Last = refl
+    back (NextList.Refused r) = choose-refused r (NextList.Words 0) NextList.Refused
 
 pub toldEncoded-injective : (a b : Encoded) → toldEncoded a ≡ toldEncoded b → a ≡ b
 toldEncoded-injective = undo toldEncoded (λ (w : ℕ × ℕ). choose (w .0) (Encoded.Code (w .1)) Encoded.Refused) back

@@ -19,6 +19,7 @@ refusals =
     ∷ some Refusal.TextTooLong
     ∷ some Refusal.ArrayTooShort
     ∷ some Refusal.ListTooLong
+    ∷ some Refusal.CatalogueTooLong
     ∷ []
 
 back : (r : Refusal) → getD refusals (number r) none ≡ some r
@@ -34,6 +35,7 @@ back Refusal.BrokenState = refl
 back Refusal.TextTooLong = refl
 back Refusal.ArrayTooShort = refl
 back Refusal.ListTooLong = refl
+back Refusal.CatalogueTooLong = refl
 
 pub number-injective : (r s : Refusal) → number r ≡ number s → r ≡ s
 number-injective r s e = Option·some-injective r s (sym (back r) ∙ ap (λ (n : ℕ). getD refusals n none) e ∙ back s)

@@ -1,10 +1,10 @@
--- What each answer tells: document 01's number of the refusal, 0 where there is none, and the
--- counts, 0 where it is refused.
+-- What each answer tells: the number of the refusal in documents 01 and 02, 0 where there is none,
+-- and the counts, 0 where it is refused.
 use Rattle.lists.specs.Prelude.{ℕ, pos, replicate}
-use Rattle.answers.specs.declared.{Refusal.{Refusal}, Written.{Written}, Encoded.{Encoded}, SetSize.{SetSize}, Built.{Built}, Filtered.{Filtered}}
-use Rattle.answers.specs.declared.{StreamAnswer.{StreamAnswer}, SearchState.{SearchState}}
+use Rattle.answers.specs.declared.{Refusal.{Refusal}, Written.{Written}, NextList.{NextList}, Encoded.{Encoded}, SetSize.{SetSize}, Built.{Built}}
+use Rattle.answers.specs.declared.{Filtered.{Filtered}, StreamAnswer.{StreamAnswer}, SearchState.{SearchState}}
 
--- Document 01: When the finder declines
+-- Document 01: When the finder declines; from 12 on document 02
 abbrev pub number : Refusal → ℕ
 number Refusal.Empty = 1
 number Refusal.TooLong = 2
@@ -17,11 +17,18 @@ number Refusal.BrokenState = 8
 number Refusal.TextTooLong = 9
 number Refusal.ArrayTooShort = 10
 number Refusal.ListTooLong = 11
+number Refusal.CatalogueTooLong = 12
 
 -- refusal and number of words
 abbrev pub toldWritten : Written → ℕ × ℕ
 toldWritten (Written.Words n) = (0, n)
 toldWritten (Written.Refused r) = (number r, 0)
+
+-- refusal; 1 where the list is the last of its catalogue; number of words
+abbrev pub toldNext : NextList → ℕ × (ℕ × ℕ)
+toldNext (NextList.Words n) = (0, (0, n))
+toldNext NextList.Last = (0, (1, 0))
+toldNext (NextList.Refused r) = (number r, (0, 0))
 
 -- refusal and code
 abbrev pub toldEncoded : Encoded → ℕ × ℕ

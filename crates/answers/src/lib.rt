@@ -3,7 +3,7 @@
 ghost use Rattle.lists.specs.Prelude.{_≡_};
 ghost use Rattle.answers.specs.Told.{number, newSearch};
 
-// The reasons for a refusal; document 01 numbers them 1 to 11 in this order.
+// The reasons for a refusal; documents 01 and 02 number them 1 to 12 in this order.
 pub enum Refusal {
     Empty,
     TooLong,
@@ -16,11 +16,20 @@ pub enum Refusal {
     TextTooLong,
     ArrayTooShort,
     ListTooLong,
+    CatalogueTooLong,
 }
 
 // The number of words or values at the front of the lent array that hold the result.
 pub enum Written {
     Words(usize),
+    Refused(Refusal),
+}
+
+// The number of words at the front of the lent array that hold the next list of the catalogue.
+// Last: there is none, and nothing is written.
+pub enum NextList {
+    Words(usize),
+    Last,
     Refused(Refusal),
 }
 
@@ -105,7 +114,7 @@ impl SearchState {
     }
 }
 
-// Document 01's number of a refusal.
+// The number of a refusal in documents 01 and 02.
 pub fn refusal_number(r: Refusal) -> u32
     ensures { λ n. ⌜ n ≡ number r ⌝ }
 {
@@ -121,5 +130,6 @@ pub fn refusal_number(r: Refusal) -> u32
         Refusal::TextTooLong => 9,
         Refusal::ArrayTooShort => 10,
         Refusal::ListTooLong => 11,
+        Refusal::CatalogueTooLong => 12,
     }
 }

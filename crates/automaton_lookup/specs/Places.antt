@@ -1,7 +1,7 @@
 -- The places of the order whose patterns begin with a head.
-use Rattle.lists.specs.Prelude.{List, ℕ, _+_, _≤_, _<_, length, select, begins}
+use Rattle.lists.specs.Prelude.{List, ℕ, _+_, _≤_, _<_, length, select, begins, before}
 use Rattle.pattern_set.specs.PatternSet.{PatternSet}
-use Rattle.automaton_model.specs.Automaton.{before, headOf, children, firstChild}
+use Rattle.automaton_model.specs.Automaton.{headOf, children, firstChild}
 
 -- the first place of the order whose pattern is not before the head
 abbrev pub firstPlace : PatternSet → List ℕ → ℕ

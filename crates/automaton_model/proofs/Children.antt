@@ -3,15 +3,15 @@
 -- of the nodes below n are the nodes after the root and before the first child of n.
 use Rattle.lists.proofs.Prelude.{_≡_, _∙_, ap, sym, subst, inl, inr, _⊎_, Bool, _&&_, List, [], _∷_, _++_, ℕ, zero, suc, pred, _+_, _-_, _≤_, _<_, T, eqb}
 use Rattle.lists.proofs.Prelude.{eqb→eq, length, getD, take, length-append, length-take-le, take-suc, take-all, take-append-seam, le-refl, decLt, arith, eq-eqb}
-use Rattle.lists.proofs.Prelude.{sub-one, select, same, refl}
+use Rattle.lists.proofs.Prelude.{sub-one, select, same, refl, before}
 use Rattle.lists.proofs.Tests.{T-true, and-split, and-join}
 use Rattle.lists.proofs.Same.{same-eq, eq-same}
 use Rattle.lists.proofs.Select.{Run, select-run}
 use Rattle.pattern_set.specs.PatternSet.{PatternSet, goodSet}
 use Rattle.matching.specs.Matching.{isHead}
 use Rattle.matching.proofs.Heads.{head-shorter}
-use Rattle.automaton_model.specs.Automaton.{before, nodes, headOf, nodeOf, children, firstChild}
-use Rattle.automaton_model.proofs.Before.{before-take, before-unappend, before-cases, before-nil}
+use Rattle.automaton_model.specs.Automaton.{nodes, headOf, nodeOf, children, firstChild}
+use Rattle.lists.proofs.Before.{before-take, before-unappend, before-cases, before-nil}
 use Rattle.automaton_model.proofs.Nodes.{Earlier, head-node, node-head, node-root, node-longer, nodes-rise, earlier-node, earlier-smaller}
 
 -- ---- parents

@@ -2,15 +2,15 @@
 -- its length, and the empty head is one.
 use Rattle.lists.proofs.Prelude.{_≡_, _∙_, ap, refl, Bool, true, false, cond, List, [], _∷_, _++_, map, foldr, List·Memᴰ, List·Memᴰ·head, List·Memᴰ·tail}
 use Rattle.lists.proofs.Prelude.{flatten, ℕ, zero, suc, _+_, _*_, _≤_, leb, length, take, length-append, length-take, length-map, arith, leb-true, leb-false}
-use Rattle.lists.proofs.Prelude.{tabulate, select}
+use Rattle.lists.proofs.Prelude.{tabulate, select, before}
 use Rattle.lists.proofs.Tables.{length-tabulate}
 use Rattle.lists.proofs.Rows.{flatten-tabulate}
 use Rattle.lists.proofs.Rising.{Rising}
 use Rattle.lists.proofs.Counting.{length-select}
 use Rattle.pattern_set.specs.PatternSet.{PatternSet}
-use Rattle.automaton_model.specs.Automaton.{before, putIn, level, nodes, order, sharedAt, recordOf, automatonWords}
-use Rattle.automaton_model.proofs.Before.{before-nil}
-use Rattle.automaton_model.proofs.Nodes.{Before, level-rising, mem-level}
+use Rattle.automaton_model.specs.Automaton.{putIn, level, nodes, order, sharedAt, recordOf, automatonWords}
+use Rattle.lists.proofs.Before.{Before, before-nil}
+use Rattle.automaton_model.proofs.Nodes.{level-rising, mem-level}
 use Rattle.automaton_model.proofs.Order.{length-order}
 
 -- ---- one level

@@ -1,5 +1,4 @@
 -- The root of the crate's laws.
-pub mod Before
 pub mod Nodes
 pub mod Children
 pub mod Order

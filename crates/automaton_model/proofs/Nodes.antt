@@ -4,7 +4,7 @@
 use Rattle.lists.proofs.Prelude.{_≡_, _∙_, ap, sym, refl, subst, inl, inr, _⊎_, _↔_, Bool, true, false, cond, List, [], _∷_, map, foldr, List·Memᴰ}
 use Rattle.lists.proofs.Prelude.{List·Memᴰ·head, List·Memᴰ·tail, List·Memᴰ·not-nil, List·Memᴰ·cases-cons, flatten, ℕ, zero, suc, pred, _-_, _≤_, _<_, ℤ, T, leb}
 use Rattle.lists.proofs.Prelude.{leb→le, le→leb, length, getD, take, length-take, length-drop, drop-of-length-le, length-take-le, decLt, arith, lastOf, begins}
-use Rattle.lists.proofs.Prelude.{tabulate, lastBelow, any, select, same}
+use Rattle.lists.proofs.Prelude.{tabulate, lastBelow, any, select, same, before}
 use Rattle.lists.proofs.Members.{getD-mem, any-mem, mem-any, all-mem, mem-map}
 use Rattle.lists.proofs.Select.{mem-select}
 use Rattle.lists.proofs.Tests.{T-true, true-T}
@@ -19,8 +19,8 @@ use Rattle.cartesian.proofs.Seek.{length-distances}
 use Rattle.matching.specs.Matching.{isHead, headTree, failure}
 use Rattle.matching.proofs.Heads.{headTree-isHead, realizable-take, head-shorter}
 use Rattle.pattern_set.proofs.Good.{good-pattern, good-realizable}
-use Rattle.automaton_model.specs.Automaton.{before, putIn, level, nodes, headOf, placeIn, nodeOf}
-use Rattle.automaton_model.proofs.Before.{before-irrefl, before-trans, before-asym, before-antisym, before-nil}
+use Rattle.automaton_model.specs.Automaton.{putIn, level, nodes, headOf, placeIn, nodeOf}
+use Rattle.lists.proofs.Before.{Before, before-irrefl, before-trans, before-asym, before-antisym, before-nil}
 
 -- ---- a list put into its place
 
@@ -63,10 +63,6 @@ mem-putIn h gs a = (from gs, to gs)
             inner (inr n) = List·Memᴰ·tail (ih (inr n))
         go false p false q (inl e) ih = List·Memᴰ·head (e ∙ before-antisym h g (λ t. subst T p t) (λ t. subst T q t))
         go false p false q (inr m) ih = m
-
--- one list before another, as a type
-abbrev pub Before : List ℕ → List ℕ → Type 0
-Before g h = T (before g h)
 
 pub putIn-rising : (h : List ℕ) (gs : List (List ℕ)) → Rising Before gs → Rising Before (putIn h gs)
 unfolding putIn

@@ -3,13 +3,13 @@
 -- patterns that end at the node, each other one where the one before it ends, and the children are
 -- as many as places among them that share no more than the head with the place before.
 use Rattle.lists.proofs.Prelude.{_≡_, _∙_, ap, sym, subst, inl, inr, _⊎_, List, [], _∷_, _++_, ℕ, suc, _+_, _-_, _≤_, _<_, T, length, getD, take, length-append}
-use Rattle.lists.proofs.Prelude.{getD-take, take-suc, take-all, take-append-seam, take-take, decLt, arith, begins}
+use Rattle.lists.proofs.Prelude.{getD-take, take-suc, take-all, take-append-seam, take-take, decLt, arith, begins, before}
 use Rattle.lists.proofs.Members.{getD-mem, mem-any}
 use Rattle.lists.proofs.Same.{same-eq, eq-same}
 use Rattle.pattern_set.specs.PatternSet.{PatternSet, goodSet}
 use Rattle.matching.specs.Matching.{isHead}
-use Rattle.automaton_model.specs.Automaton.{before, nodes, headOf, nodeOf, order, sharedAt, endsAt, children, firstChild}
-use Rattle.automaton_model.proofs.Before.{before-irrefl, take-before}
+use Rattle.automaton_model.specs.Automaton.{nodes, headOf, nodeOf, order, sharedAt, endsAt, children, firstChild}
+use Rattle.lists.proofs.Before.{before-irrefl, take-before}
 use Rattle.automaton_model.proofs.Nodes.{head-node, node-head, nodes-rise}
 use Rattle.automaton_model.proofs.Children.{child-head, child-number}
 use Rattle.automaton_model.proofs.Order.{order-lt, order-behind, patternAt}

@@ -1,15 +1,15 @@
 -- THE RECORD OF THE ROOT is the same for every set that has a pattern: each begins with 0 and none
 -- is empty.
 use Rattle.lists.proofs.Prelude.{_≡_, ap, sym, refl, subst, List, [], _∷_, _++_, ℕ, suc, _-_, _<_, T, length, drop-of-length-le, decLt, arith, tabulate}
-use Rattle.lists.proofs.Prelude.{lastBelow, same}
+use Rattle.lists.proofs.Prelude.{lastBelow, same, before}
 use Rattle.lists.proofs.Same.{same-eq}
 use Rattle.lists.proofs.Select.{select-empty}
 use Rattle.cartesian.specs.Cartesian.{distances}
 use Rattle.realization.specs.Realization.{leastRealization}
 use Rattle.pattern_set.specs.PatternSet.{PatternSet, goodSet}
 use Rattle.matching.specs.Matching.{isHead, failure}
-use Rattle.automaton_model.specs.Automaton.{before, headOf, endsAt, children, firstChild, recordOf}
-use Rattle.automaton_model.proofs.Before.{before-nil}
+use Rattle.automaton_model.specs.Automaton.{headOf, endsAt, children, firstChild, recordOf}
+use Rattle.lists.proofs.Before.{before-nil}
 use Rattle.automaton_model.proofs.Nodes.{node-head, node-root, good-length, head-realizable}
 use Rattle.automaton_model.proofs.Children.{child-head, child-labels-rise, child-number}
 use Rattle.automaton_lookup.specs.Places.{firstPlace}

@@ -8,6 +8,8 @@
 //       length, room of the array, the list; refusal, count, and every word of the array afterwards
 //   5 encode: length, the list; refusal, code
 //   6 decode: length, code, room; refusal, count, and every word of the array afterwards
+//   10 next list: length, room, the list; refusal, count, 1 where it is the last one, and every
+//       word of the array afterwards
 // An array that is only written holds 7s before the call.
 mod pattern_cases;
 
@@ -18,13 +20,13 @@ fn case(s: &[u8], entry: u64, at: usize) -> Outcome {
     let mut list = [0u32; 320];
     let mut values = [7i32; 320];
     let mut out = [7u32; 320];
-    if entry <= 4 {
-        return pattern_cases::list_case(s, entry, at, &mut list, &mut values, &mut out);
-    }
     if entry == 5 {
         return pattern_cases::encode_case(s, at, &mut list);
     }
-    pattern_cases::decode_case(s, at, &mut out)
+    if entry == 6 {
+        return pattern_cases::decode_case(s, at, &mut out);
+    }
+    pattern_cases::list_case(s, entry, at, &mut list, &mut values, &mut out)
 }
 
 // Runs the cases from the start of the input, and prints how many there are and how many of them

@@ -25,6 +25,16 @@ fn least_case(s: &[u8], at: usize, list: &mut [u32], out: &mut [i32]) -> Outcome
     case_input::after(expect::written(a, want.refusal, want.count), o)
 }
 
+// The distances are read, and the next list is compared.
+fn next_case(s: &[u8], at: usize, list: &mut [u32], out: &mut [u32]) -> Outcome {
+    let p = case_input::words(s, at, list);
+    let want = case_input::read_expected(s, p);
+    let last = case_input::number(s, want.at);
+    let a = finder::next_list(list, out);
+    let o = case_input::expect_words(s, last.at, out);
+    case_input::after(expect::next_list(a, want.refusal, last.size, want.count), o)
+}
+
 // Global parents for entry 3, failure lengths for 4.
 fn words_of(entry: u64, ds: &[u32], out: &mut [u32]) -> Written {
     if entry == 3 {
@@ -35,6 +45,9 @@ fn words_of(entry: u64, ds: &[u32], out: &mut [u32]) -> Written {
 
 // The distances are read, and the words made from them are compared.
 fn words_case(s: &[u8], entry: u64, at: usize, list: &mut [u32], out: &mut [u32]) -> Outcome {
+    if entry == 10 {
+        return next_case(s, at, list, out);
+    }
     let p = case_input::words(s, at, list);
     let want = case_input::read_expected(s, p);
     let a = words_of(entry, list, out);

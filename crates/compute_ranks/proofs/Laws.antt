@@ -4,9 +4,9 @@ use Rattle.lists.proofs.Prelude.{_≡_, _∙_, ap, sym, refl, subst, true, List
 use Rattle.lists.proofs.Prelude.{drop, set, drop-of-length-le, drop-cons, mod-lt, mul-le-mul-right, add-one, decLt, arith}
 use Rattle.lists.proofs.Tables.{tabulate-more}
 use Rattle.realization.specs.Realization.{realizable}
-use Rattle.realization.proofs.Realizable.{realizable-iff}
+use Rattle.realization.proofs.Realizable.{realizable-iff, realizable-ok}
 use Rattle.ranking.specs.Rank.{factorial, rankFrom, rank, unrank}
-use Rattle.ranking.proofs.Rank.{rank-lt, realizable-ok}
+use Rattle.ranking.proofs.Rank.{rank-lt}
 
 -- ---- ranking
 

@@ -1,11 +1,13 @@
 -- The open places before a place i are i - 1 and what its link leads to, and so on down: from an
 -- open place on, the way of links is the same.
-use Rattle.lists.proofs.Tests.{clash}
-use Rattle.lists.proofs.Prelude.{_≡_, _∙_, ap, sym, refl, Bool, true, false, cond, _||_, List, [], _∷_, map, ℕ, zero, suc, _+_, _-_, _≤_, _<_, eqb, leb}
+use Rattle.lists.proofs.Tests.{T-true, true-T, clash, and-split}
+use Rattle.lists.proofs.Prelude.{_≡_, _∙_, ap, sym, refl, Bool, true, false, cond, _||_, List, [], _∷_, map, ℕ, zero, suc, _+_, _-_, _≤_, _<_, T, eqb, leb}
 use Rattle.lists.proofs.Prelude.{eqb·suc-suc, eqb·zero-suc, length, getD, drop, drop-of-length-le, drop-cons, add-one, decLt, arith, eq-eqb, ne-eqb, leb-true}
 use Rattle.lists.proofs.Prelude.{leb-false, any, select}
+use Rattle.realization.specs.Realization.{realizable}
 use Rattle.realization.specs.Walk.{leads, opened, walk}
-use Rattle.compute_realization.specs.OpenDistances.{openDistances}
+use Rattle.realization.proofs.Walk.{realizable-walk}
+use Rattle.compute_realization.specs.OpenDistances.{openDistances, Led}
 
 -- ---- which places are among those that are opened
 
@@ -40,7 +42,7 @@ any-dropped d y (o ∷ os) h = go (leb d o) refl (any-dropped d y os h)
     go true e ih = rw (ne-eqb y o (λ q. omega (arith, leb-true d o e))) ih
     go false e ih = ih
 
-one-open : (d : ℕ) (os : List ℕ) → any (eqb 1) (opened d os) ≡ true
+pub one-open : (d : ℕ) (os : List ℕ) → any (eqb 1) (opened d os) ≡ true
 unfolding any
 one-open zero os = refl
 one-open (suc d) os = refl
@@ -51,22 +53,22 @@ zero-shut zero os = refl
 zero-shut (suc d) os = no-zero (select (leb (suc d)) os)
 
 -- after a distance 0 nothing is open but its own place
-opened-none : (y : ℕ) (os : List ℕ) → 0 < y → any (eqb (suc y)) (opened 0 os) ≡ false
+pub opened-none : (y : ℕ) (os : List ℕ) → 0 < y → any (eqb (suc y)) (opened 0 os) ≡ false
 unfolding any
 opened-none y os h = rw (ne-eqb (suc y) 1 (λ q. omega arith)) refl
 
-opened-kept : (d y : ℕ) (os : List ℕ) → 0 < d → d ≤ y → any (eqb (suc y)) (opened d os) ≡ any (eqb y) os
+pub opened-kept : (d y : ℕ) (os : List ℕ) → 0 < d → d ≤ y → any (eqb (suc y)) (opened d os) ≡ any (eqb y) os
 unfolding any
 opened-kept zero y os h k = absurd (let z : ⊥ = omega arith in z)
 opened-kept (suc d) y os h k = rw (ne-eqb (suc y) 1 (λ q. omega arith)) (any-map-suc y (select (leb (suc d)) os) ∙ any-kept (suc d) y os k)
 
-opened-shut : (d y : ℕ) (os : List ℕ) → 0 < y → y < d → any (eqb (suc y)) (opened d os) ≡ false
+pub opened-shut : (d y : ℕ) (os : List ℕ) → 0 < y → y < d → any (eqb (suc y)) (opened d os) ≡ false
 unfolding any
 opened-shut zero y os h k = absurd (let z : ⊥ = omega arith in z)
 opened-shut (suc d) y os h k = rw (ne-eqb (suc y) 1 (λ q. omega arith)) (any-map-suc y (select (leb (suc d)) os) ∙ any-dropped (suc d) y os k)
 
 -- an open place is one of the list
-open-le : (ds : List ℕ) (i x : ℕ) → any (eqb x) (openDistances ds i) ≡ true → x ≤ i
+pub open-le : (ds : List ℕ) (i x : ℕ) → any (eqb x) (openDistances ds i) ≡ true → x ≤ i
 unfolding openDistances any
 open-le ds zero x e = clash e refl
 open-le ds (suc i) zero e = omega arith
@@ -82,7 +84,7 @@ open-le ds (suc i) (suc (suc y)) e = go (getD ds i 0) refl (open-le ds i (suc y)
         near (no g) = omega (arith, ih (sym (opened-kept (suc d) (suc y) (openDistances ds i) (omega arith) (omega arith)) ∙ (rw q at e)))
 
 -- where j is open at i, the places before j that are open at i are those that are open at j + 1
-open-through : (ds : List ℕ) (i j t : ℕ) → j < i → t ≤ j → any (eqb (i - j)) (openDistances ds i) ≡ true
+pub open-through : (ds : List ℕ) (i j t : ℕ) → j < i → t ≤ j → any (eqb (i - j)) (openDistances ds i) ≡ true
     → any (eqb (i - t)) (openDistances ds i) ≡ any (eqb (suc j - t)) (openDistances ds (suc j))
 unfolding openDistances
 open-through ds zero j t h k e = absurd (let z : ⊥ = omega arith in z)
@@ -111,7 +113,7 @@ open-through ds (suc n) j t h k e = below (decLt j n) (open-through ds n j t)
 -- ---- the ways through the loop that goes down the links, from place j; t is the place that is
 -- looked for
 
-lead-some : (d : ℕ) (os : List ℕ) → (d ≡ 0 → ⊥) → leads d os ≡ any (eqb d) os
+pub lead-some : (d : ℕ) (os : List ℕ) → (d ≡ 0 → ⊥) → leads d os ≡ any (eqb d) os
 lead-some zero os h = absurd (h refl)
 lead-some (suc d) os h = refl
 
@@ -191,3 +193,21 @@ walk-stop ds i h e = rw (drop-cons ds i 0 h, e) refl
 pub walk-end : (os ds : List ℕ) (i : ℕ) → length ds ≤ i → walk os (drop i ds) ≡ true
 unfolding walk
 walk-end os ds i h = rw (drop-of-length-le ds {i = i} h) refl
+
+-- ---- a realizable list: the walk comes by every place
+
+walk-step : (ds : List ℕ) (i : ℕ) → i < length ds → T (walk (openDistances ds i) (drop i ds))
+    → T (leads (getD ds i 0) (openDistances ds i)) × T (walk (openDistances ds (suc i)) (drop (suc i) ds))
+unfolding walk openDistances
+walk-step ds i h t =
+    let os = openDistances ds i in
+    and-split (leads (getD ds i 0) os) (walk (opened (getD ds i 0) os) (drop (suc i) ds)) (rw (drop-cons ds i 0 h) at t)
+
+walk-at : (ds : List ℕ) (i : ℕ) → i ≤ length ds → T (walk [] ds) → T (walk (openDistances ds i) (drop i ds))
+unfolding openDistances
+walk-at ds zero h t = t
+walk-at ds (suc i) h t = walk-step ds i h (walk-at ds i (omega arith) t) .1
+
+pub realizable-led : (ds : List ℕ) → realizable ds ≡ true → Led ds (length ds)
+realizable-led ds e j h =
+    true-T (leads (getD ds j 0) (openDistances ds j)) (walk-step ds j h (walk-at ds j (omega arith) (T-true (walk [] ds) (sym (realizable-walk ds) ∙ e))) .0)

@@ -2,3 +2,4 @@
 pub mod Refusals
 pub mod Searchable
 pub mod Stream
+pub mod NextList

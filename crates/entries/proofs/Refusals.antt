@@ -1,10 +1,10 @@
 -- Laws of refusals: which condition is the first met, what a refused call tells and leaves, and
 -- what a call that is not refused knows.
-use Rattle.lists.proofs.Prelude.{_≡_, refl, Bool, true, false, List, _∷_, _++_, ℕ, zero, suc, _<_, length, drop, arith}
+use Rattle.lists.proofs.Prelude.{_≡_, _∙_, ap, sym, refl, Bool, true, false, List, _∷_, _++_, ℕ, zero, suc, _<_, length, drop, arith}
 use Rattle.answers.specs.declared.Refusal.{Refusal}
 use Rattle.answers.specs.Told.{number}
 use Rattle.answers.proofs.Refusals.{number-positive}
-use Rattle.entries.specs.Entries.{Conditions, firstMet, unless}
+use Rattle.entries.specs.Entries.{Conditions, Entry, firstMet, unless, told, after}
 
 -- the first condition is met
 pub met : (n : ℕ) (b : Bool) (cs : Conditions) → b ≡ true → firstMet ((n, b) ∷ cs) ≡ n
@@ -36,3 +36,33 @@ unless-positive (suc n) done kept h = refl
 
 pub unless-refused : {A : Type 0} (r : Refusal) (done kept : A) → unless (number r) done kept ≡ kept
 unless-refused r done kept = unless-positive (number r) done kept (number-positive r)
+
+-- ---- of an entry: what a call tells, and what it leaves in the lent array
+
+module _ {C A : Type 0} (zeros : C) (e : Entry C A) where
+  -- a refused call tells the number and no count, and leaves the array as it was
+  pub tells-refused : (r : Refusal) → firstMet (e .conditions) ≡ number r → _≡_ {A = ℕ × C} (number r, zeros) (told zeros e)
+  tells-refused r h = sym (ap (λ (k : ℕ). (k, unless k (e .counts) zeros)) h ∙ ap (λ (m : C). (number r, m)) (unless-refused r (e .counts) zeros))
+
+  pub refused : (r : Refusal) (array : List A) → firstMet (e .conditions) ≡ number r
+      → (_≡_ {A = ℕ × C} (number r, zeros) (told zeros e)) × (array ≡ after e array)
+  refused r array h =
+      let done = e .result ++ drop (length (e .result)) array in
+      (tells-refused r h, sym (ap (λ (k : ℕ). unless k done array) h ∙ unless-refused r done array))
+
+  -- one that is not refused tells the counts, and leaves the result at the front of the array
+  pub tells : (m : C) → firstMet (e .conditions) ≡ 0 → m ≡ e .counts → _≡_ {A = ℕ × C} (0, m) (told zeros e)
+  tells m h q = ap (λ (n : C). (0, n)) q ∙ sym (ap (λ (k : ℕ). (k, unless k (e .counts) zeros)) h)
+
+  pub left-accepted : (array : List A) → firstMet (e .conditions) ≡ 0 → e .result ++ drop (length (e .result)) array ≡ after e array
+  left-accepted array h = sym (ap (λ (k : ℕ). unless k (e .result ++ drop (length (e .result)) array) array) h)
+
+  pub accepted : (m : C) (array left : List A) → firstMet (e .conditions) ≡ 0 → m ≡ e .counts → left ≡ e .result ++ drop (length (e .result)) array
+      → (_≡_ {A = ℕ × C} (0, m) (told zeros e)) × (left ≡ after e array)
+  accepted m array left h q l = (tells m h q, l ∙ left-accepted array h)
+
+  -- and the other way round: a call that tells no refusal
+  pub told-accepted : (m : C) → told zeros e ≡ (0, m) → (firstMet (e .conditions) ≡ 0) × (e .counts ≡ m)
+  told-accepted m t =
+      let r : firstMet (e .conditions) ≡ 0 = ap (λ (w : ℕ × C). w .0) t in
+      (r, sym (ap (λ (k : ℕ). unless k (e .counts) zeros) r) ∙ ap (λ (w : ℕ × C). w .1) t)

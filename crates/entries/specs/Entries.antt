@@ -1,7 +1,9 @@
 -- The entries: when each refuses, what it counts and what it writes.
 use Rattle.lists.specs.Prelude.{Bool, cond, not, _&&_, _||_, List, [], _∷_, _++_, flatten, ℕ, zero, suc, _+_, _*_, eqb, leb, ltb, ℤ, length, drop, begins}
+use Rattle.lists.specs.Prelude.{Option, none, some}
 use Rattle.cartesian.specs.Cartesian.{distances}
 use Rattle.realization.specs.Realization.{realizable}
+use Rattle.catalogue.specs.Catalogue.{nextList}
 use Rattle.ranking.specs.Rank.{rank, unrank, isRank}
 use Rattle.pattern_set.specs.PatternSet.{setWords, isSet, patternsOf}
 use Rattle.matching.specs.Matching.{hits, hitWords, candidates}
@@ -35,9 +37,9 @@ abbrev pub unless : {A : Type 0} → ℕ → A → A → A
 unless zero done kept = done
 unless (suc r) done kept = kept
 
--- what the call tells: refusal and counts; `none` are those of a refused one
+-- what the call tells: refusal and counts; `zeros` are those of a refused one
 abbrev pub told : {C A : Type 0} → C → Entry C A → ℕ × C
-told none e = (firstMet (e .conditions), unless (firstMet (e .conditions)) (e .counts) none)
+told zeros e = (firstMet (e .conditions), unless (firstMet (e .conditions)) (e .counts) zeros)
 
 -- the lent array after the call
 abbrev pub after : {C A : Type 0} → Entry C A → List A → List A
@@ -58,6 +60,24 @@ listConditions ds room = (1, eqb (length ds) 0) ∷ (2, ltb 256 (length ds)) ∷
 -- least realization, global parents or failure lengths of a list of distances
 abbrev pub listEntry : {A : Type 0} → (List ℕ → List A) → List ℕ → List A → Entry ℕ A
 listEntry make ds out = record { conditions = listConditions ds (length out); counts = length ds; result = make ds }
+
+-- what is counted of a next list: 1 where there is none, and its words
+abbrev pub nextCounts : Option (List ℕ) → ℕ × ℕ
+nextCounts none = (1, 0)
+nextCounts (some es) = (0, length es)
+
+-- what is written: nothing where there is none, so that no array is too short for it
+abbrev pub nextWords : Option (List ℕ) → List ℕ
+nextWords none = []
+nextWords (some es) = es
+
+-- the next list of the catalogue. Document 02, 2.1
+abbrev pub nextEntry : List ℕ → List ℕ → Entry (ℕ × ℕ) ℕ
+nextEntry ds out =
+    let next = nextList ds in
+    let cs : Conditions = (1, eqb (length ds) 0) ∷ (2, ltb 256 (length ds)) ∷ (12, ltb 10 (length ds)) ∷ (4, not (realizable ds))
+    ∷ (10, ltb (length out) (length (nextWords next))) ∷ [] in
+    record { conditions = cs; counts = nextCounts next; result = nextWords next }
 
 -- code of a list of distances
 abbrev pub encodeEntry : List ℕ → Entry ℕ ℕ

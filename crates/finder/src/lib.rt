@@ -1,15 +1,16 @@
 // The finder's entries. A caller lists this crate and `answers`, which declares the answers, the
 // refusals and the search state. No entry asks anything of its caller: each answers, or refuses by
-// document 01's number and changes no word.
+// the number of documents 01 and 02 and changes no word.
 ghost use Rattle.lists.specs.Prelude.{_≡_};
-ghost use Rattle.answers.specs.Told.{toldWritten, toldEncoded, toldSize, toldBuilt, toldFiltered, toldStreamed};
+ghost use Rattle.answers.specs.Told.{toldWritten, toldNext, toldEncoded, toldSize, toldBuilt, toldFiltered, toldStreamed};
 ghost use Rattle.realization.specs.Realization.{leastRealization, failureLengths};
 ghost use Rattle.global_parents.specs.GlobalParents.{globalParents};
 ghost use Rattle.entries.specs.Entries.{told, after, distancesEntry, listEntry, encodeEntry, decodeEntry, emptySetEntry, checkEntry, addEntry, buildEntry};
-ghost use Rattle.entries.specs.Entries.{streamEntry, streamState, filterEntry};
+ghost use Rattle.entries.specs.Entries.{nextEntry, streamEntry, streamState, filterEntry};
 use answers::Built;
 use answers::Encoded;
 use answers::Filtered;
+use answers::NextList;
 use answers::SearchState;
 use answers::SetSize;
 use answers::Streamed;
@@ -62,6 +63,16 @@ pub fn decode(n: usize, code: u64, out: &mut [u32]) -> Written
     ensures { λ _. ⌜ now (out .exit) ≡ after (decodeEntry n code (now (out .entry))) (now (out .entry)) ⌝ }
 {
     pattern::decode(n, code, out)
+}
+
+// Writes the next realizable list of the same length, at most 10, in the order of the first
+// distance that differs, smaller first; or answers that the list is the last one, and writes
+// nothing. Refuses 1 2 12 4 10.
+pub fn next_list(ds: &[u32], out: &mut [u32]) -> NextList
+    ensures { λ r. ⌜ toldNext r ≡ told (0, 0) (nextEntry (now (ds .entry)) (now (out .entry))) ⌝ }
+    ensures { λ _. ⌜ now (out .exit) ≡ after (nextEntry (now (ds .entry)) (now (out .entry))) (now (out .entry)) ⌝ }
+{
+    next_list::next_list(ds, out)
 }
 
 // ---- sets of patterns

@@ -1,12 +1,16 @@
 -- What the structs of numbers tell that the exported functions return: refusal and counts.
 use Rattle.lists.specs.Prelude.{ℕ}
 use Rattle.finder_c.specs.declared.FinderWritten.{FinderWritten}
+use Rattle.finder_c.specs.declared.FinderNextList.{FinderNextList}
 use Rattle.finder_c.specs.declared.FinderCode.{FinderCode}
 use Rattle.finder_c.specs.declared.FinderCounts.{FinderCounts}
 use Rattle.finder_c.specs.declared.FinderStreamed.{FinderStreamed}
 
 abbrev pub tellsWritten : FinderWritten → ℕ × ℕ
 tellsWritten r = (r .refusal, r .words)
+
+abbrev pub tellsNext : FinderNextList → ℕ × (ℕ × ℕ)
+tellsNext r = (r .refusal, (r .last, r .words))
 
 abbrev pub tellsCode : FinderCode → ℕ × ℕ
 tellsCode r = (r .refusal, r .code)

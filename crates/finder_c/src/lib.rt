@@ -1,16 +1,17 @@
 // The finder's entries for C and Rust: each returns a struct of numbers. A slice is a pointer and a
 // length; include/finder.h documents each function.
 ghost use Rattle.lists.specs.Prelude.{_≡_};
-ghost use Rattle.answers.specs.Told.{toldWritten, toldEncoded, toldSize, toldBuilt, toldFiltered, toldStreamed, newSearch};
+ghost use Rattle.answers.specs.Told.{toldWritten, toldNext, toldEncoded, toldSize, toldBuilt, toldFiltered, toldStreamed, newSearch};
 ghost use Rattle.realization.specs.Realization.{leastRealization, failureLengths};
 ghost use Rattle.global_parents.specs.GlobalParents.{globalParents};
 ghost use Rattle.entries.specs.Entries.{told, after, distancesEntry, listEntry, encodeEntry, decodeEntry, emptySetEntry, checkEntry, addEntry, buildEntry};
-ghost use Rattle.entries.specs.Entries.{streamEntry, streamState, filterEntry};
-ghost use Rattle.finder_c.specs.Told.{tellsWritten, tellsCode, tellsCounts, tellsStreamed};
+ghost use Rattle.entries.specs.Entries.{nextEntry, streamEntry, streamState, filterEntry};
+ghost use Rattle.finder_c.specs.Told.{tellsWritten, tellsNext, tellsCode, tellsCounts, tellsStreamed};
 use answers::Built;
 use answers::Counts;
 use answers::Encoded;
 use answers::Filtered;
+use answers::NextList;
 use answers::SearchState;
 use answers::SetSize;
 use answers::StreamAnswer;
@@ -21,6 +22,14 @@ use answers::Written;
 #[repr(C)]
 pub struct FinderWritten {
     pub refusal: u32,
+    pub words: usize,
+}
+
+// Refusal, 1 where the list is the last of its catalogue, and the words written.
+#[repr(C)]
+pub struct FinderNextList {
+    pub refusal: u32,
+    pub last: u32,
     pub words: usize,
 }
 
@@ -64,6 +73,26 @@ fn written(w: Written) -> FinderWritten
             refusal: answers::refusal_number(r),
             words: 0,
         },
+    }
+}
+
+fn next_told(refusal: u32, last: u32, words: usize) -> FinderNextList
+    ensures { λ r. ⌜ tellsNext r ≡ (refusal, (last, words)) ⌝ }
+{
+    FinderNextList {
+        refusal,
+        last,
+        words,
+    }
+}
+
+fn listed(l: NextList) -> FinderNextList
+    ensures { λ r. ⌜ tellsNext r ≡ toldNext l ⌝ }
+{
+    match l {
+        NextList::Words(n) => next_told(0, 0, n),
+        NextList::Last => next_told(0, 1, 0),
+        NextList::Refused(r) => next_told(answers::refusal_number(r), 0, 0),
     }
 }
 
@@ -216,6 +245,15 @@ pub extern "C" fn finder_decode(n: usize, code: u64, out: &mut [u32]) -> FinderW
 {
     let w = finder::decode(n, code, out);
     written(w)
+}
+
+#[no_mangle]
+pub extern "C" fn finder_next_list(ds: &[u32], out: &mut [u32]) -> FinderNextList
+    ensures { λ r. ⌜ tellsNext r ≡ told (0, 0) (nextEntry (now (ds .entry)) (now (out .entry))) ⌝ }
+    ensures { λ _. ⌜ now (out .exit) ≡ after (nextEntry (now (ds .entry)) (now (out .entry))) (now (out .entry)) ⌝ }
+{
+    let l = finder::next_list(ds, out);
+    listed(l)
 }
 
 // ---- sets of patterns

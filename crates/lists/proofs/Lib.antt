@@ -15,3 +15,4 @@ pub mod Counting
 pub mod Rising
 pub mod Powers
 pub mod Moving
+pub mod Before

@@ -84,6 +84,15 @@ put-behind f d n x e h =
     ∙ store-behind 0 f d n x (sym e) h
     ∙ ap (λ (k : ℕ). (f ++ (x ∷ [])) ++ drop k d) (let l : n + 1 ≡ length (f ++ (x ∷ [])) = omega (arith, e, length-snoc f x) in l)
 
+-- ---- an array d that is written from its front to its end, to become v
+
+-- one more store
+pub fill-more : {A : Type 0} (a : A) (v d : List A) (i : ℕ) (x : A) → i < length v → i < length d → x ≡ getD v i a
+    → set (take i v ++ drop i d) i x ≡ take (i + 1) v ++ drop (i + 1) d
+fill-more {A} a v d i x h k e =
+    store-behind a (take i v) d i x (length-take-le i v (omega arith)) k
+    ∙ ap (λ (l : List A). l ++ drop (i + 1) d) (ap (λ (y : A). take i v ++ (y ∷ [])) e ∙ sym (take-suc v i a h) ∙ ap (λ (n : ℕ). take n v) (sym (add-one i)))
+
 -- ---- an array o that is written from its end to its front, to become f
 
 -- nothing is written yet

@@ -36,4 +36,4 @@ pub use borrow.Author.Tests.{eqb-false}
 pub use borrow.Author.Count.{below-more, below-none}
 pub use borrow.Author.Needs.{needs}
 pub use Rattle.lists.specs.Prelude.{lastOf, begins}
-unfoldable pub use Rattle.lists.specs.Prelude.{tabulate, lastBelow, any, all, select, same}
+unfoldable pub use Rattle.lists.specs.Prelude.{tabulate, lastBelow, any, all, select, same, before}

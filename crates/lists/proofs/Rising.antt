@@ -2,8 +2,9 @@
 use Rattle.lists.proofs.Prelude.{_≡_, _∙_, ap, sym, refl, subst, ap₂, inl, inr, _⊎_, Bool, true, false, cond, List, [], _∷_, _++_, List·Memᴰ}
 use Rattle.lists.proofs.Prelude.{List·Memᴰ·head, List·Memᴰ·tail, List·Memᴰ·not-nil, List·Memᴰ·cases-cons, List·Memᴰ·append-cases, Memᴰ·append-left}
 use Rattle.lists.proofs.Prelude.{Memᴰ·append-right, ℕ, zero, suc, _+_, _≤_, _<_, length, getD, take, drop, length-append, split-at, decLt, arith}
-use Rattle.lists.proofs.Prelude.{tabulate, select}
-use Rattle.lists.proofs.Members.{getD-mem, mem-getD, mem-table, mem-below}
+use Rattle.lists.proofs.Prelude.{map, flatten, tabulate, select}
+use Rattle.lists.proofs.Members.{getD-mem, mem-getD, mem-map, mem-table, mem-below}
+use Rattle.lists.proofs.Rows.{flatten-tabulate, mem-flatten-tabulate}
 use Rattle.lists.proofs.Places.{after}
 use Rattle.lists.proofs.Select.{mem-select}
 
@@ -43,6 +44,25 @@ rising-select {A} R test (x ∷ xs) e = go (test x) (rising-select R test xs (e 
     go : (b : Bool) → Rising R (select test xs) → Rising R (cond b (x ∷ select test xs) (select test xs))
     go true ih = (λ y m. e .0 y (mem-select test xs y .0 m .0), ih)
     go false ih = ih
+
+-- rows that rise, each before the next, rise one behind the other
+pub rising-rows : {A : Type 0} (R : A → A → Type 0) (n : ℕ) (f : ℕ → List A) → ((i : ℕ) → i < n → Rising R (f i))
+    → ((i j : ℕ) (a b : A) → i < j → j < n → List·Memᴰ a (f i) → List·Memᴰ b (f j) → R a b) → Rising R (flatten (tabulate n f))
+unfolding tabulate flatten
+rising-rows R zero f h k = tt
+rising-rows {A} R (suc n) f h k =
+    subst (Rising R) (sym (flatten-tabulate n f))
+    (rising-append R (flatten (tabulate n f)) (f n) (rising-rows R n f (λ i l. h i (omega arith)) (λ i j a b l m. k i j a b l (omega arith)))
+    (h n (omega arith))
+    (λ a b p q. let r = mem-flatten-tabulate n f a .0 p in k (r .0) n a b (r .1) (omega arith) (r .2) q))
+
+pub rising-map : {A B : Type 0} (R : A → A → Type 0) (S : B → B → Type 0) (f : A → B) (xs : List A) → ((a b : A) → R a b → S (f a) (f b)) → Rising R xs
+    → Rising S (map f xs)
+rising-map R S f [] h r = tt
+rising-map {A} {B} R S f (x ∷ xs) h r = (λ y m. first y (mem-map f xs y .0 m), rising-map R S f xs h (r .1))
+  where
+    first : (y : B) → (a : A) × List·Memᴰ a xs × (y ≡ f a) → S (f x) y
+    first y p = rw (p .2) (h x (p .0) (r .0 (p .0) (p .1)))
 
 -- a table rises where its rule does
 pub table-rising : {A : Type 0} (R : A → A → Type 0) (n : ℕ) (f : ℕ → A) (d : A) → ((i j : ℕ) → i < j → j < n → R (f i) (f j)) → Rising R (tabulate n f)

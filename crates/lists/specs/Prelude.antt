@@ -42,3 +42,11 @@ same (x ∷ xs) (y ∷ ys) = eqb x y && same xs ys
 -- does xs begin with ys
 abbrev pub begins : List ℕ → List ℕ → Bool
 begins xs ys = same (take (length ys) xs) ys
+
+-- does xs come before ys: by the first differing number, smaller first; a list comes before its
+-- continuations
+unfoldable pub before : List ℕ → List ℕ → Bool
+before [] [] = false
+before [] (y ∷ ys) = true
+before (x ∷ xs) [] = false
+before (x ∷ xs) (y ∷ ys) = ltb x y || (eqb x y && before xs ys)

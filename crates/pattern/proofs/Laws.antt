@@ -9,34 +9,18 @@ use Rattle.ranking.specs.Rank.{factorial, unrank, isRank}
 use Rattle.ranking.proofs.Rank.{length-unrank}
 use Rattle.answers.specs.declared.Refusal.{Refusal}
 use Rattle.answers.specs.Told.{number}
-use Rattle.entries.specs.Entries.{Conditions, Entry, firstMet, unless, told, after, distancesEntry, listConditions, encodeEntry, decodeEntry}
-use Rattle.entries.proofs.Refusals.{first-unmet, unless-refused}
+use Rattle.entries.specs.Entries.{Conditions, Entry, firstMet, told, after, distancesEntry, listConditions, encodeEntry, decodeEntry}
+use Rattle.entries.proofs.Refusals.{first-unmet, accepted}
 use Rattle.pattern.specs.declared.Checked.{Checked}
 use Rattle.pattern.specs.Checked.{toldChecked}
 
 -- ---- what the number decides
 
--- a refused call tells the number and no count, and leaves the array as it was
-pub tells-refused : {A : Type 0} (r : Refusal) (e : Entry ℕ A) → firstMet (e .conditions) ≡ number r → _≡_ {A = ℕ × ℕ} (number r, 0) (told 0 e)
-tells-refused r e h = sym (ap (λ (k : ℕ). (k, unless k (e .counts) 0)) h ∙ ap (λ (m : ℕ). (number r, m)) (unless-refused r (e .counts) 0))
-
-pub refused : {A : Type 0} (r : Refusal) (e : Entry ℕ A) (array : List A) → firstMet (e .conditions) ≡ number r
-    → (_≡_ {A = ℕ × ℕ} (number r, 0) (told 0 e)) × (array ≡ after e array)
-refused r e array h =
-    let done = e .result ++ drop (length (e .result)) array in
-    (tells-refused r e h, sym (ap (λ (k : ℕ). unless k done array) h ∙ unless-refused r done array))
-
--- a call that is not refused tells the count, and leaves the result at the front of the array
-pub tells : {A : Type 0} (e : Entry ℕ A) (m : ℕ) → firstMet (e .conditions) ≡ 0 → m ≡ e .counts → _≡_ {A = ℕ × ℕ} (0, m) (told 0 e)
-tells e m h q = ap (λ (j : ℕ). (0, j)) q ∙ sym (ap (λ (k : ℕ). (k, unless k (e .counts) 0)) h)
-
+-- a call that is not refused tells the number of elements that it leaves at the front of the array
 pub written : {A : Type 0} (e : Entry ℕ A) (array left : List A) → firstMet (e .conditions) ≡ 0 → length (e .result) ≡ e .counts
     → left ≡ e .result ++ drop (e .counts) array
     → (_≡_ {A = ℕ × ℕ} (0, e .counts) (told 0 e)) × (left ≡ after e array)
-written e array left h l q = (
-  tells e (e .counts) h refl,
-  q ∙ ap (λ (j : ℕ). e .result ++ drop j array) (sym l) ∙ sym (ap (λ (k : ℕ). unless k (e .result ++ drop (length (e .result)) array) array) h),
-)
+written e array left h l q = accepted 0 e (e .counts) array left h refl (q ∙ ap (λ (j : ℕ). e .result ++ drop j array) (sym l))
 
 -- the number that a check found
 pub checked-refused : (checked : Checked) (k : ℕ) (r : Refusal) → toldChecked checked ≡ k → checked ≡ Checked.Refused r → k ≡ number r

@@ -3,9 +3,9 @@
 use Rattle.lists.proofs.Prelude.{_≡_, _∙_, sym, subst, ap₂, _↔_, List, ℕ, _<_, T, ltb, ltb→lt, lt→ltb, length}
 use Rattle.lists.proofs.Tests.{and-split, and-join}
 use Rattle.realization.specs.Realization.{Realizable, realizable}
-use Rattle.realization.proofs.Realizable.{realizable-iff}
+use Rattle.realization.proofs.Realizable.{realizable-iff, realizable-ok}
 use Rattle.ranking.specs.Rank.{factorial, rank, unrank, isRank}
-use Rattle.ranking.proofs.Rank.{length-unrank, rank-unrank, rank-lt, realizable-ok, decode-encode}
+use Rattle.ranking.proofs.Rank.{length-unrank, rank-unrank, rank-lt, decode-encode}
 
 -- THE LAW
 pub isRank-iff : (n code : ℕ) → T (isRank n code) ↔ ((ds : List ℕ) × Realizable ds × (length ds ≡ n) × (rank ds ≡ code))

@@ -4,11 +4,9 @@
 use Rattle.lists.proofs.Prelude.{_≡_, _∙_, sym, refl, subst, _↔_, List, [], _∷_, _++_, ℕ, zero, suc, _+_, _*_, _/_, _%_, _<_, length, getD, ext-getD, add-zero}
 use Rattle.lists.proofs.Prelude.{zero-add, mod-lt, mod-eq-of-lt, mod-one, arith, tabulate}
 use Rattle.lists.proofs.Tables.{length-tabulate, getD-tabulate}
-use Rattle.cartesian.specs.Cartesian.{tree}
-use Rattle.cartesian.proofs.HasTree.{tree-has}
-use Rattle.cartesian.proofs.Structure.{distances-tree}
-use Rattle.cartesian.proofs.Injective.{Ok, ok-app, treeDistances-ok}
+use Rattle.cartesian.proofs.Injective.{Ok, ok-app}
 use Rattle.realization.specs.Realization.{Realizable}
+use Rattle.realization.proofs.Realizable.{realizable-ok}
 use Rattle.ranking.specs.Rank.{factorial, rankFrom, rank, unrank}
 use Rattle.ranking.proofs.Arithmetic.{factorial-pos, digit-lt, digit-read, mod-product}
 
@@ -109,10 +107,6 @@ unrank-iff n code ds h = (
 )
 
 -- ---- lists of parent distances
-
-pub realizable-ok : (ds : List ℕ) → Realizable ds → Ok 0 ds
-unfolding Realizable
-realizable-ok ds r = subst (Ok 0) (sym (distances-tree (tree-has (r .0))) ∙ r .1) (treeDistances-ok (tree (r .0)))
 
 pub decode-encode : (ds : List ℕ) → Realizable ds → unrank (length ds) (rank ds) ≡ ds
 decode-encode ds r = unrank-rank ds (realizable-ok ds r)

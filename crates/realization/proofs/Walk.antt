@@ -5,7 +5,7 @@ use Rattle.lists.proofs.Members.{any-append}
 use Rattle.lists.proofs.Parts.{map-append}
 use Rattle.lists.proofs.Prelude.{_≡_, _∙_, ap, sym, refl, subst, inl, inr, _⊎_, ⊎-elim, _↔_, Bool, true, false, cond, _||_, List, [], _∷_, _++_, map}
 use Rattle.lists.proofs.Prelude.{append-nil, append-assoc, ℕ, zero, suc, _+_, _≤_, pos, T, eqb, leb, eqb→eq, eqb-refl, length, add-zero, arith, le-leb, lt-leb}
-use Rattle.lists.proofs.Prelude.{eqb-true, eqb-false, any, select}
+use Rattle.lists.proofs.Prelude.{eqb-true, eqb-false, replicate, any, select}
 use Rattle.lists.proofs.Select.{select-append}
 use Rattle.lists.proofs.Tests.{test-ext, and-split, and-join, or-cases, or-left, or-right}
 use Rattle.cartesian.specs.Cartesian.{Tree, leaf, node, size, tree}
@@ -213,3 +213,9 @@ walk-iff ds = (
 pub realizable-walk : (ds : List ℕ) → realizable ds ≡ walk [] ds
 realizable-walk ds =
     test-ext (realizable ds) (walk [] ds) (λ t. walk-iff ds .1 (realizable-iff ds .0 t)) (λ t. realizable-iff ds .1 (walk-iff ds .0 t))
+
+-- zeros are accepted, whatever is open
+pub walk-zeros : (os : List ℕ) (n : ℕ) → walk os (replicate n 0) ≡ true
+unfolding walk
+walk-zeros os zero = refl
+walk-zeros os (suc n) = walk-zeros (1 ∷ []) n

@@ -23,7 +23,7 @@ kept (suc n) done before h = refl
 
 pub demand1 : Demand1
 demand1 = record {
-  tells = λ none e h. ap (λ c. (firstMet (e .conditions), c)) (kept (firstMet (e .conditions)) (e .counts) none h);
+  tells = λ zeros e h. ap (λ c. (firstMet (e .conditions), c)) (kept (firstMet (e .conditions)) (e .counts) zeros h);
   leaves = λ e array h. kept (firstMet (e .conditions)) (e .result ++ drop (length (e .result)) array) array h;
   handsBack = λ ws automaton out st xs h. kept (firstMet (streamConditions ws automaton st xs out)) (call (patternsOf ws) st (length out) xs .state) st h;
   lists = realizable-iff;

@@ -12,3 +12,4 @@ pub mod Call
 pub mod Taken
 pub mod Run
 pub mod Demands
+pub mod CatalogueWalk

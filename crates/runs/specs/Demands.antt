@@ -21,7 +21,7 @@ use Rattle.runs.specs.ReferenceRun.{Call, Seen, isLent, reference, taken
 -- `entries` lists for it. A refused call
 pub record Demand1 : Type 1 where
   -- tells the number and no count
-  pub tells : {C A : Type 0} (none : C) (e : Entry C A) → 0 < firstMet (e .conditions) → told none e ≡ (firstMet (e .conditions), none)
+  pub tells : {C A : Type 0} (zeros : C) (e : Entry C A) → 0 < firstMet (e .conditions) → told zeros e ≡ (firstMet (e .conditions), zeros)
   -- leaves every word as it was, and hands the state back as given
   pub leaves : {C A : Type 0} (e : Entry C A) (array : List A) → 0 < firstMet (e .conditions) → after e array ≡ array
   pub handsBack : (ws am out : List ℕ) (st : SearchState) (xs : List ℤ) → 0 < firstMet (streamConditions ws am st xs out) → streamState ws am st xs out ≡ st

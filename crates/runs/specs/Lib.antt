@@ -1,3 +1,4 @@
 -- The root of the crate's definitions.
 pub mod ReferenceRun
 pub mod Demands
+pub mod CatalogueWalk

@@ -3,6 +3,7 @@
 use Rattle.lists.specs.Prelude.{Bool, ℕ}
 use Rattle.answers.specs.Told.{number}
 use Rattle.answers.specs.declared.Written.{Written}
+use Rattle.answers.specs.declared.NextList.{NextList}
 use Rattle.answers.specs.declared.SetSize.{SetSize}
 use Rattle.answers.specs.declared.Built.{Built}
 use Rattle.answers.specs.declared.Filtered.{Filtered}
@@ -24,6 +25,12 @@ comparedSizes refusal p a b q c d = firstOf (comparedRefusal refusal 0) (firstOf
 abbrev pub comparedWritten : Written → ℕ → ℕ → Difference
 comparedWritten (Written.Words n) refusal count = firstOf (comparedRefusal refusal 0) (compared Part.Written 0 count n)
 comparedWritten (Written.Refused r) refusal count = comparedRefusal refusal (number r)
+
+-- whether the list is the last of its catalogue, and the words written
+abbrev pub comparedNext : NextList → ℕ → ℕ → ℕ → Difference
+comparedNext (NextList.Words n) refusal last count = comparedSizes refusal Part.Last last 0 Part.Written count n
+comparedNext NextList.Last refusal last count = comparedSizes refusal Part.Last last 1 Part.Written count 0
+comparedNext (NextList.Refused r) refusal last count = comparedRefusal refusal (number r)
 
 -- patterns and distances
 abbrev pub comparedSet : SetSize → ℕ → ℕ → ℕ → Difference

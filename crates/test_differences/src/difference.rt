@@ -39,6 +39,9 @@ pub enum Part {
     AtLeast,
     Needed,
     Room,
+    // of a catalogue
+    Last,
+    Lists,
 }
 
 // Nothing differs, or what does, what was expected and what came. Of arrays and texts the place is

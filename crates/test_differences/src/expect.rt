@@ -2,14 +2,15 @@
 // number, and 0 is none.
 ghost use Rattle.lists.specs.Prelude.{_≡_};
 ghost use Rattle.answers.specs.Told.{number as refusalNumber, toldStreamed};
-ghost use Rattle.test_differences.specs.Expect.{comparedRefusal, comparedSizes, comparedWritten, comparedSet, comparedBuilt, comparedFiltered};
-ghost use Rattle.test_differences.specs.Expect.{comparedCounts, comparedStream};
+ghost use Rattle.test_differences.specs.Expect.{comparedRefusal, comparedSizes, comparedWritten, comparedNext, comparedSet, comparedBuilt};
+ghost use Rattle.test_differences.specs.Expect.{comparedFiltered, comparedCounts, comparedStream};
 use super::difference;
 use super::difference::Difference;
 use super::difference::Part;
 use answers::Built;
 use answers::Counts;
 use answers::Filtered;
+use answers::NextList;
 use answers::Refusal;
 use answers::SetSize;
 use answers::StreamAnswer;
@@ -39,6 +40,19 @@ pub fn written(a: Written, number: u64, count: u64) -> Difference
             difference::expect(Part::Written, count, n as u64),
         ),
         Written::Refused(r) => refused(number, r),
+    }
+}
+
+// Whether the list is the last of its catalogue, 1 where it is, and the words written.
+pub fn next_list(a: NextList, number: u64, last: u64, count: u64) -> Difference
+    ensures { λ d. ⌜ d ≡ comparedNext a number last count ⌝ }
+{
+    match a {
+        NextList::Words(n) => {
+            sizes(number, Part::Last, last, 0, Part::Written, count, n as u64)
+        },
+        NextList::Last => sizes(number, Part::Last, last, 1, Part::Written, count, 0),
+        NextList::Refused(r) => refused(number, r),
     }
 }
 

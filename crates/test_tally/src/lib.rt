@@ -96,8 +96,8 @@ fn print_one(names: &[u8], n: usize) {
     print(&names[from..end]);
 }
 
-// The number of a part: its place among the names below, of answers, then of states, of arrays
-// and of tests.
+// The number of a part: its place among the names below, of answers, then of states, of arrays, of
+// tests and of catalogues.
 fn number(part: Part) -> usize {
     match part {
         Part::Refusal => 0,
@@ -127,6 +127,8 @@ fn number(part: Part) -> usize {
         Part::AtLeast => 24,
         Part::Needed => 25,
         Part::Room => 26,
+        Part::Last => 27,
+        Part::Lists => 28,
     }
 }
 
@@ -162,6 +164,11 @@ fn print_of_test(n: usize) {
     );
 }
 
+// Prints the name of a part of a catalogue.
+fn print_of_catalogue(n: usize) {
+    print_one(b"whether the list is the last one;lists of the length", n);
+}
+
 // Prints the name of a part.
 fn print_part(part: Part) {
     let n = number(part);
@@ -174,7 +181,10 @@ fn print_part(part: Part) {
     if n < 24 {
         return print_of_array(n - 17);
     }
-    print_of_test(n - 24)
+    if n < 27 {
+        return print_of_test(n - 24);
+    }
+    print_of_catalogue(n - 27)
 }
 
 // Whether a part is printed with its place.

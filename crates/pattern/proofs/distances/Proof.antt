@@ -4,25 +4,26 @@ use Rattle.lists.proofs.Prelude.{arith, needs}
 use Rattle.answers.specs.declared.Refusal.{Refusal}
 use Rattle.cartesian.proofs.Seek.{length-distances}
 use Rattle.entries.specs.Entries.{distancesEntry}
-use Rattle.pattern.proofs.Laws.{refused, written, distances-empty, distances-too-long, distances-array-too-short, distances-good}
+use Rattle.entries.proofs.Refusals.{refused}
+use Rattle.pattern.proofs.Laws.{written, distances-empty, distances-too-long, distances-array-too-short, distances-good}
 use Rattle.pattern.proofs.distances.Statement.{statement}
 use Rattle.pattern.proofs.distances.Tie as tie
 
 returns : tie.Need-returns
 returns c =
     let a = c .before .before .args in
-    refused Refusal.Empty (distancesEntry (a .values .now) (a .out .now)) (a .out .now) (distances-empty (a .values .now) (a .out .now) (c .if1 .taken))
+    refused 0 (distancesEntry (a .values .now) (a .out .now)) Refusal.Empty (a .out .now) (distances-empty (a .values .now) (a .out .now) (c .if1 .taken))
 
 returns-2 : tie.Need-returns-2
 returns-2 c =
     let a = c .before .before .before .args in
-    refused Refusal.TooLong (distancesEntry (a .values .now) (a .out .now)) (a .out .now)
+    refused 0 (distancesEntry (a .values .now) (a .out .now)) Refusal.TooLong (a .out .now)
     (distances-too-long (a .values .now) (a .out .now) (c .before .if1 .left) (omega arith))
 
 returns-3 : tie.Need-returns-3
 returns-3 c =
     let a = c .before .before .before .before .args in
-    refused Refusal.ArrayTooShort (distancesEntry (a .values .now) (a .out .now)) (a .out .now)
+    refused 0 (distancesEntry (a .values .now) (a .out .now)) Refusal.ArrayTooShort (a .out .now)
     (distances-array-too-short (a .values .now) (a .out .now) (c .before .before .if1 .left) (c .before .if2 .left) (c .if3 .taken))
 
 parent-distances-requires : tie.Need-parent-distances-requires

@@ -5,7 +5,8 @@ use Rattle.lists.proofs.Prelude.{length, needs}
 use Rattle.global_parents.specs.GlobalParents.{globalParents}
 use Rattle.entries.specs.Entries.{listEntry}
 use Rattle.global_parents.proofs.Parents.{length-globalParents}
-use Rattle.pattern.proofs.Laws.{refused, written, checked-refused, checked-accepted, list-unmet}
+use Rattle.entries.proofs.Refusals.{refused}
+use Rattle.pattern.proofs.Laws.{written, checked-refused, checked-accepted, list-unmet}
 use Rattle.pattern.proofs.global_parents.Statement.{statement}
 use Rattle.pattern.proofs.global_parents.Tie as tie
 
@@ -28,7 +29,7 @@ returns : tie.Need-returns
 returns c =
     let q = c .before .before .before in
     let a = q .before .before .before .args in
-    refused (c .before .checked .given .0 .0) (listEntry globalParents (a .ds .now) (a .out .now)) (a .out .now)
+    refused 0 (listEntry globalParents (a .ds .now) (a .out .now)) (c .before .checked .given .0 .0) (a .out .now)
     (checked-refused _ _ _ (q .check-list .ensures) (c .before .checked .given .1))
 
 same-length : tie.Need-same-length

@@ -1,12 +1,16 @@
--- The lexicographic order of lists of distances: it is irreflexive, transitive and total, and a
+-- The lexicographic order of lists of numbers: it is irreflexive, transitive and total, and a
 -- common front of two lists does not count.
-use Rattle.lists.proofs.Prelude.{_≡_, _∙_, ap, sym, refl, subst, ap₂, inl, inr, _⊎_, _&&_, List, [], _∷_, _++_, append-nil, ℕ, zero, suc, _<_, T, eqb, ltb}
-use Rattle.lists.proofs.Prelude.{eqb→eq, ltb→lt, lt→ltb, eqb-refl, length, take, drop, take-append-drop, take-length, decLt, arith, begins}
+use Rattle.lists.proofs.Prelude.{_≡_, _∙_, ap, sym, refl, subst, ap₂, inl, inr, _⊎_, _&&_, List, [], _∷_, _++_, append-nil, ℕ, zero, suc, _<_, T, eqb}
+use Rattle.lists.proofs.Prelude.{ltb, eqb→eq, ltb→lt, lt→ltb, eqb-refl, length, take, drop, take-append-drop, take-length, replicate, decLt, arith}
+use Rattle.lists.proofs.Prelude.{begins, before}
 use Rattle.lists.proofs.Tests.{and-split, and-join, or-cases, or-left, or-right}
 use Rattle.lists.proofs.Same.{same-eq, eq-same}
-use Rattle.automaton_model.specs.Automaton.{before}
 
--- ---- lists that begin with a distance
+-- one list is before another
+abbrev pub Before : List ℕ → List ℕ → Type 0
+Before xs ys = T (before xs ys)
+
+-- ---- lists that begin with a number
 
 pub before-cases : (x : ℕ) (xs : List ℕ) (y : ℕ) (ys : List ℕ) → T (before (x ∷ xs) (y ∷ ys)) → (x < y) ⊎ ((x ≡ y) × T (before xs ys))
 unfolding before
@@ -95,6 +99,16 @@ pub before-nil : (xs : List ℕ) → T (before xs []) → ⊥
 unfolding before
 before-nil [] t = t
 before-nil (x ∷ xs) t = t
+
+-- nor a list of equal length before zeros
+pub before-zeros : (xs : List ℕ) → T (before xs (replicate (length xs) 0)) → ⊥
+unfolding before
+before-zeros [] t = t
+before-zeros (x ∷ xs) t = go (before-cases x xs 0 (replicate (length xs) 0) t) (before-zeros xs)
+  where
+    go : (x < 0) ⊎ ((x ≡ 0) × T (before xs (replicate (length xs) 0))) → (T (before xs (replicate (length xs) 0)) → ⊥) → ⊥
+    go (inl h) ih = omega arith
+    go (inr p) ih = ih (p .1)
 
 -- a common front does not count
 pub before-unappend : (zs xs ys : List ℕ) → T (before (zs ++ xs) (zs ++ ys)) → T (before xs ys)

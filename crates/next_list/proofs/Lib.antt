@@ -1,0 +1,1 @@
+-- The root of the crate's laws.
