@@ -32,7 +32,8 @@ static double seconds(void)
     return (double)t.tv_sec + 1e-9 * (double)t.tv_nsec;
 }
 
-static const char *const data_name[] = {"uniform", "walk", "pump", "ramps", "equal"};
+static const char *const data_name[] = {"uniform", "walk", "pump", "ramps", "equal", "gaps"};
+enum { DATA = sizeof data_name / sizeof data_name[0] };
 
 static void make_text(int data, size_t n)
 {
@@ -48,7 +49,10 @@ static void make_text(int data, size_t n)
             break;
         }
         case 3: text[i] = (int32_t)(i % 5000); break;
-        default: text[i] = 7;
+        case 4: text[i] = 7; break;
+        default: /* a walk in which each value is a gap with probability 1/256 */
+            w += (int32_t)(next() % 21) - 10;
+            text[i] = next() % 256 ? w : GAP;
         }
 }
 
@@ -56,6 +60,14 @@ static const struct { size_t count, length; const char *name; } set_of[] = {
     {1, 4, "1 of 4"}, {8, 4, "8 of 4"}, {64, 4, "64 of 4"}, {1, 16, "1 of 16"}, {8, 16, "8 of 16"}, {64, 16, "64 of 16"},
     {1, 64, "1 of 64"}, {8, 64, "8 of 64"}, {64, 64, "64 of 64"}, {8, 0, "8 mixed"}, {64, 0, "64 mixed"}};
 enum { SETS = sizeof set_of / sizeof set_of[0] };
+
+static int holds_gap(const int32_t *values, size_t n)
+{
+    for (size_t i = 0; i < n; i++)
+        if (values[i] == GAP)
+            return 1;
+    return 0;
+}
 
 static void make_set(int s, size_t n)
 {
@@ -65,7 +77,10 @@ static void make_set(int s, size_t n)
     finder_empty_set(set, 8192);
     for (size_t j = 0; j < patterns.count; j++) {
         size_t m = set_of[s].length ? set_of[s].length : mixed[next() % 6];
-        const int32_t *from = text + next() % (n - m);
+        const int32_t *from;
+        do
+            from = text + next() % (n - m);
+        while (holds_gap(from, m));
         patterns.length[j] = m;
         memcpy(patterns.values[j], from, m * sizeof *from);
         if (finder_add_pattern(set, 8192, from, m).refusal)
@@ -183,11 +198,11 @@ int main(int argc, char **argv)
     }
     printf("| data | set | hits | stream | Aho-Corasick | ratio | filter | one-pass filter | ratio | tight | windows | attempts | call us |\n");
     printf("|---|---|---|---|---|---|---|---|---|---|---|---|---|\n");
-    for (int d = 0; d < 5; d++) {
+    for (int d = 0; d < DATA; d++) {
         make_text(d, LONGEST);
         for (int s = 0; s < SETS; s++) {
             double ns[ENGINES];
-            fprintf(stderr, "\r%-10s %-10s %2d of %d", data_name[d], set_of[s].name, d * SETS + s + 1, 5 * SETS);
+            fprintf(stderr, "\r%-10s %-10s %2d of %d", data_name[d], set_of[s].name, d * SETS + s + 1, DATA * SETS);
             make_set(s, LONGEST);
             plain_a = plain_automaton(&patterns);
             plain_f = plain_filter(&patterns);

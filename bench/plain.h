@@ -5,6 +5,8 @@
 #include <stddef.h>
 #include <stdint.h>
 
+#define GAP INT32_MIN /* no sample: a window that holds one is no hit */
+
 typedef struct {
     size_t count;            /* patterns, at most 64 */
     size_t length[64];

@@ -3,6 +3,9 @@
  * Two stretches of values have one shape when their Cartesian trees are equal: the leftmost lowest value is the root, with the
  * tree of what is before it on its left and of what is after it on its right.
  *
+ * A text value of -2,147,483,648 (FINDER_GAP) is a gap: the recorder had no sample there. A window that holds a gap has no tree, so
+ * it is no hit of any pattern; a pattern holds none.
+ *
  * No function asks anything of its caller but that a pointer and its length name an array that may be read (const) or written:
  * each answers, or refuses by number and then changes no word and counts nothing. An array of length 0 may be passed with any
  * pointer that is not null and aligned. Arrays that one call is lent must not overlap. Nothing is allocated, nothing is kept
@@ -22,6 +25,7 @@
  *   10  the lent array is too short (each function says for what)
  *   11  the list of a filter search does not fit its array
  *   12  a catalogue is involved and the distance list is longer than 10
+ *   13  a pattern given as values holds a gap
  */
 #ifndef FINDER_H
 #define FINDER_H
@@ -32,6 +36,9 @@
 #ifdef __cplusplus
 extern "C" {
 #endif
+
+/* The value of a text where there is no sample. */
+#define FINDER_GAP INT32_MIN
 
 /* Refusal, and how many words or values at the front of the array are the result. */
 typedef struct {
@@ -61,8 +68,8 @@ typedef struct {
 } FinderCounts;
 
 /* A search between two calls: the values taken, the automaton's node, and the open minima (places among the last 256 values
- * that have no smaller value after them) in a ring that starts at slot `first`. Make one with finder_new_search and hand on what
- * each call returns; a state may be copied, stored and loaded as bytes on one machine. */
+ * that have no gap and no smaller value after them) in a ring that starts at slot `first`. Make one with finder_new_search and hand
+ * on what each call returns; a state may be copied, stored and loaded as bytes on one machine. */
 typedef struct {
     uint32_t taken;
     uint32_t node;
@@ -86,13 +93,13 @@ typedef struct {
 /* ---- one pattern */
 
 /* Writes the parent distances of n values: at place i it is i - j for the greatest j below i whose value is not above that at i,
- * and 0 if there is none. Refuses 1, 2, 10 (room < n). Words behind the first n are as they were. */
+ * and 0 if there is none. Refuses 1, 2, 13, 10 (room < n). Words behind the first n are as they were. */
 FinderWritten finder_distances(const int32_t *values, size_t n, uint32_t *out, size_t room);
 
 /* Writes the least values, none negative, that have the n distances. Refuses 1, 2, 4, 10 (room < n). */
 FinderWritten finder_least_realization(const uint32_t *distances, size_t n, int32_t *out, size_t room);
 
-/* Writes the global parent of each place: values have the tree exactly if each is above that at its global parent, or equal to
+/* Writes the global parent of each place: samples have the tree exactly if each is above that at its global parent, or equal to
  * it with the parent not to its right. Refuses 1, 2, 4, 10 (room < n). */
 FinderWritten finder_global_parents(const uint32_t *distances, size_t n, uint32_t *out, size_t room);
 
@@ -120,7 +127,7 @@ FinderWritten finder_empty_set(uint32_t *set, size_t room);
 FinderCounts finder_check_set(const uint32_t *set, size_t words);
 
 /* Adds a pattern, given as n values, as the last one; tells the patterns and the distances then. The set uses 3 words and one for
- * each pattern and each distance. Refuses 1, 2, 5, 6, 10 (too few words for the larger set). */
+ * each pattern and each distance. Refuses 1, 2, 13, 5, 6, 10 (too few words for the larger set). */
 FinderCounts finder_add_pattern(uint32_t *set, size_t words, const int32_t *values, size_t n);
 
 /* ---- automaton and searches */
@@ -135,14 +142,15 @@ FinderState finder_new_search(void);
 /* Takes values until they end, or until fewer than two words a pattern are free in the hit array and values are left (full: call
  * again with the rest and the state returned). Writes the hits that end at the values taken to the front of the hit array: two
  * words each, the last place in the whole text and the pattern number; by place, longer pattern first, then lower number. Words
- * behind them are as they were. Refuses 1, 5, 7, 8, 9, 10 (hits_room < 2 * patterns). */
+ * behind them are as they were. A gap is taken as a value and makes no attempt; after it the search begins anew. Refuses 1, 5, 7,
+ * 8, 9, 10 (hits_room < 2 * patterns). */
 FinderStreamed finder_stream_search(const uint32_t *set, size_t set_words, const uint32_t *automaton, size_t automaton_words,
                                     FinderState state, const int32_t *values, size_t n, uint32_t *hits, size_t hits_room);
 
 /* Writes all hits of a whole text, the same list; tells the hits (first) and the candidates (second). A candidate is a pair of a
- * pattern and a window within the text whose last b values fall at the same places (they have one fingerprint), where b is the
- * length of the shortest pattern, 17 at most. Every hit is a candidate, and not every candidate need be checked. Refuses 1, 5, 9,
- * 11, and has then written nothing. */
+ * pattern and a window within the text, without a gap, whose last b values fall at the same places (they have one fingerprint),
+ * where b is the length of the shortest pattern, 17 at most. Every hit is a candidate, and not every candidate need be checked.
+ * Refuses 1, 5, 9, 11, and has then written nothing. */
 FinderCounts finder_filter_search(const uint32_t *set, size_t set_words, const int32_t *text, size_t n, uint32_t *hits,
                                   size_t hits_room);
 

@@ -103,7 +103,7 @@ def after(refusal, result, room):
 def case_list(entry, given, room):
     n = len(given)
     if entry == 1:
-        r = first([(1, n == 0), (2, n > 256), (10, room < n)])
+        r = first([(1, n == 0), (2, n > 256), (13, GAP in given), (10, room < n)])
         result = distances(given) if r == 0 else []
     else:
         r = first([(1, n == 0), (2, n > 256)]) or first([(4, least(given) is None), (10, room < n)])
@@ -186,7 +186,7 @@ def case_check(ws):
 def case_add(ws, xs):
     ps = read_set(ws)
     total = sum(map(len, ps or [])) + len(xs)
-    r = first([(1, not xs), (2, len(xs) > 256), (5, ps is None)])
+    r = first([(1, not xs), (2, len(xs) > 256), (13, GAP in xs), (5, ps is None)])
     r = r or first([(6, len(ps) >= 64 or total > 4096), (10, len(ws) < 4 + len(ps) + total)])
     if r:
         cases.append([9, len(ws), *ws, len(xs), *xs, r, 0, 0, *ws])
@@ -197,11 +197,11 @@ def case_add(ws, xs):
     return left
 
 
-LOW, HIGH, WORD = -2 ** 31, 2 ** 31 - 1, 2 ** 32 - 1
+GAP, LOW, HIGH, WORD = -2 ** 31, -2 ** 31 + 1, 2 ** 31 - 1, 2 ** 32 - 1
 
 
 def values(n, spread):
-    """Values with ties; the lowest value of all is the only one below 0 that the program reads."""
+    """Samples with ties, the lowest and the highest among them."""
     return [random.choice((LOW, HIGH)) if random.random() < 0.02 else random.randint(0, 2 * spread) for _ in range(n)]
 
 
@@ -236,6 +236,16 @@ for n in (0, 1, 20, 21, 255, 256, 257):
         case_list(entry, distances(xs), n + 1)
         case_list(entry, distances(xs), max(n - 1, 0))
     case_encode(distances(xs))
+# gaps at the first place, in the middle and at the last, the lowest sample there, and all places gaps
+for n in (1, 2, 3, 5, 20, 21, 255, 256, 257):
+    xs = values(n, 3)
+    for x in (GAP, LOW):
+        for i in (0, n // 2, n - 1):
+            for room in (n + 1, n, n - 1, 0) if n < 100 else (n, 0):
+                case_list(1, xs[:i] + [x] + xs[i + 1:], room)
+        case_list(1, [x] * n, n)
+case_list(1, [GAP, HIGH], 1)
+case_list(1, [-GAP - 1, GAP + 1, 0], 3)
 rising, falling = list(range(256)), list(range(256, 0, -1))
 for xs in (rising, falling, [5] * 256, [i % 2 for i in range(256)]):
     for entry in (2, 3, 4):
@@ -250,6 +260,9 @@ for _ in range(250):
     xs = values(random.randint(1, 12), random.choice((1, 2, 5, 1000)))
     ds = distances(xs)
     case_list(1, xs, len(xs) + random.randint(-1, 2))
+    if random.random() < 0.2:
+        xs[random.randrange(len(xs))] = GAP
+        case_list(1, xs, len(xs) + random.randint(-1, 2))
     case_list(random.choice((2, 3, 4)), ds, len(ds) + random.randint(-1, 1))
     case_encode(ds)
     if random.random() < 0.7:
@@ -295,10 +308,28 @@ case_add([0, 0, 0, 7, 7], [1])
 case_add([0, 0, 7, 7, 7], [1])
 case_add([0, 0, 7, 7, 7], [])
 case_add([0, 0, 7, 7, 7], values(257, 4))
+# gaps at the first place, in the middle and at the last, and the lowest sample there: into an array with room, one that is too short,
+# one that is no set, sets that hold 64 patterns or 4,096 distances; too many values before it all
+for n in (1, 2, 3, 255, 256, 257):
+    xs = values(n, 3)
+    for x in (GAP, LOW):
+        for i in {0, n // 2, n - 1}:
+            case_add([0, 0, 0] + [7] * (n + 2), xs[:i] + [x] + xs[i + 1:])
+for x in (GAP, LOW):
+    for xs in ([x], [x, 1, 2], [1, x, 2], [1, 2, x], [x, x, x]):
+        for ws in ([0, 0, 0, 7, 7, 7, 7], [0, 0, 0, 7], [0, 0, 7, 7, 7, 7, 7], [], good + [7] * 4, good + [7] * 3, good[:-1]):
+            case_add(ws, xs)
+    case_add(many, [x])
+    case_add(full + [7, 7], [5, x])
+    case_add([0, 0, 7, 7, 7], [x] * 257)
+    case_add([0, 0, 7, 7, 7], [3] * 256 + [x])
 for _ in range(12):
     ws = [0, 0, 0] + [random.randint(0, 9) for _ in range(60)]
     for _ in range(8):
-        ws = case_add(ws, values(random.randint(0, 12), random.choice((1, 3, 1000))))
+        xs = values(random.randint(0, 12), random.choice((1, 3, 1000)))
+        ws = case_add(ws, xs)
+        if xs and random.random() < 0.2:
+            ws = case_add(ws, xs[:-1] + [GAP])
     case_check(ws)
 
 # ---- next lists: all of the lengths up to 7, those up to 6 held to the distances of all values; then longer ones, and refusals

@@ -79,8 +79,8 @@ def page_cases():
     """The examples of docs/HITS.md: a command that makes an input, and below it what is printed."""
     page = (pathlib.Path(__file__).resolve().parent.parent / "docs" / "HITS.md").read_text()
     examples = re.findall(r"^    \$ (.*) \| target/bin/hits\n((?:    [^$\n].*\n)+)", page, re.M)
-    if len(examples) != 3:
-        sys.exit("FAILED: docs/HITS.md has %d examples, expected 3" % len(examples))
+    if len(examples) != 5:
+        sys.exit("FAILED: docs/HITS.md has %d examples, expected 5" % len(examples))
     for command, lines in examples:
         data = subprocess.run(["sh", "-c", command], stdout=subprocess.PIPE, check=True).stdout
         case("an example of docs/HITS.md", data, re.sub(r"^    ", "", lines, flags=re.M).encode())
@@ -90,6 +90,7 @@ page_cases()
 hits_inputs.form_cases(case)
 hits_inputs.number_cases(case)
 hits_inputs.size_cases(case)
+hits_inputs.gap_cases(case)
 hits_inputs.call_cases(case)
 pipe_cases()
 hits_inputs.random_cases(case, 400)

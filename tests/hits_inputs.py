@@ -1,5 +1,5 @@
 #!/usr/bin/env python3
-"""Inputs of the program `hits`, and what is expected of each, computed here from the words of document 01.
+"""Inputs of the program `hits`, and what is expected of each, computed here from the words of documents 01 and 02.
 
 usage: hits_inputs.py > crates/cases_hits/stdin
 
@@ -15,6 +15,7 @@ import sys
 
 FORM = re.compile(rb"(?:(?:-?[0-9]+(?: -?[0-9]+)*)\n)*\n(?:-?[0-9]+(?: -?[0-9]+)*)?\n\Z")
 LOWEST, HIGHEST = -(2**31), 2**31 - 1
+GAP = LOWEST
 sys.setrecursionlimit(10000)
 if hasattr(sys, "set_int_max_str_digits"):
     sys.set_int_max_str_digits(0)
@@ -64,13 +65,20 @@ def refusal(shapes):
     for k, shape in enumerate(shapes):
         if len(shape) > 256:
             return 2
+        if GAP in shape:
+            return 13
         if k == 64:
             return 6
     return None if shapes else 1
 
 
+def has_tree(window, trees_of):
+    """Whether the window's length and tree are among these; a window that holds a gap has no tree."""
+    return GAP not in window and (len(window), tree_of(window)) in trees_of
+
+
 def found(shapes, recording):
-    """The hits and the trials."""
+    """The hits and the trials. A gap makes no trial, and no hit ends with it."""
     heads = {(n, tree_of(s[:n])) for s in shapes for n in range(len(s) + 1)}
     by_tree = {}
     for number, shape in enumerate(shapes):
@@ -78,14 +86,16 @@ def found(shapes, recording):
     lengths = sorted({len(s) for s in shapes}, reverse=True)
     hits, trials = [], 0
     for i in range(len(recording)):
-        tails = [n for n in range(min(i, lengths[0]), -1, -1) if (n, tree_of(recording[i - n : i])) in heads]
+        if recording[i] == GAP:
+            continue
+        tails = [n for n in range(min(i, lengths[0]), -1, -1) if has_tree(recording[i - n : i], heads)]
         for n in tails:
             trials += 1
-            if (n + 1, tree_of(recording[i - n : i + 1])) in heads:
+            if has_tree(recording[i - n : i + 1], heads):
                 break
         for n in lengths:
-            if n <= i + 1:
-                for number in by_tree.get((n, tree_of(recording[i + 1 - n : i + 1])), []):
+            if n <= i + 1 and has_tree(recording[i + 1 - n : i + 1], by_tree):
+                for number in by_tree[n, tree_of(recording[i + 1 - n : i + 1])]:
                     hits.append((i, number, n))
     return hits, trials
 
@@ -151,19 +161,28 @@ def form_cases(case):
 
 
 def number_cases(case):
-    good = ["-0", "-000", "0", "00", "007", "-007", "-1", "2147483647", "-2147483648", "002147483647", "-002147483648", "0" * 5000, "-" + "0" * 5000, "0" * 5000 + "1"]
+    good = ["-0", "-000", "0", "00", "007", "-007", "-1", "2147483647", "-2147483647", "002147483647", "-002147483647", "0" * 5000, "-" + "0" * 5000, "0" * 5000 + "1"]
+    gaps = ["-2147483648", "-002147483648", "-" + "0" * 3000 + "2147483648"]
     bad = ["+1", "-", "--1", "-+1", "1-", "1-2", "- 1", "2147483648", "-2147483649", "4294967296", "4294967295", "-4294967296", "9" * 20, "18446744073709551616", "18446744073709551617", "-18446744073709551616", "1" + "0" * 40, "0" * 3000 + "2147483648", "-" + "0" * 3000 + "2147483649", "0x1", "1e3", "1.0", "9" * 5000]
     for word in good:
         case("a good number in a shape", ("1 %s 2\n\n1 2 3 1\n" % word).encode())
         case("a good number in the recording", ("1 2\n\n1 2 %s 3 1\n" % word).encode())
         case("a good number alone", ("%s\n\n%s\n" % (word, word)).encode(), b"end shape length\n0 0 1\ntrials 1\n")
+    for word in gaps:
+        case("a gap in a shape", ("1 %s 2\n\n1 2 3 1\n" % word).encode(), b"refused 13\n")
+        case("a gap in the recording", ("1 2\n\n1 2 %s 3 4\n" % word).encode(), b"end shape length\n1 0 2\n4 0 2\ntrials 4\n")
+        case("a gap alone", ("%s\n\n%s\n" % (word, word)).encode(), b"refused 13\n")
+        case("a gap alone in the recording", ("1\n\n%s\n" % word).encode(), b"end shape length\ntrials 0\n")
     for word in bad:
         case("a bad number in a shape", ("1 %s 2\n\n1 2 3 1\n" % word).encode(), BAD)
         case("a bad number in the recording", ("1 2\n\n1 2 %s 3 1\n" % word).encode(), BAD)
         case("a bad number at the end", ("1 2\n\n1 2 %s\n" % word).encode(), BAD)
     case("-0 is 0", b"1 1\n2 1\n\n-0 0 -0 00\n")
-    extremes = [LOWEST, HIGHEST, LOWEST, LOWEST, -1, 0, HIGHEST, HIGHEST, LOWEST, LOWEST + 1, HIGHEST - 1, HIGHEST]
-    case("extremes", text_of([[LOWEST, HIGHEST], [HIGHEST, LOWEST], [LOWEST, LOWEST], [0, -1], [LOWEST, -1, HIGHEST]], extremes))
+    low = GAP + 1
+    shapes = [[low, HIGHEST], [HIGHEST, low], [low, low], [0, -1], [low, -1, HIGHEST]]
+    extremes = [low, HIGHEST, low, low, -1, 0, HIGHEST, HIGHEST, low, low + 1, HIGHEST - 1, HIGHEST]
+    case("extremes", text_of(shapes, extremes))
+    case("extremes and gaps", text_of(shapes, [GAP if x == low and i % 3 else x for i, x in enumerate(2 * extremes)]))
 
 
 def size_cases(case):
@@ -203,6 +222,39 @@ def size_cases(case):
     case("only newlines", b"\n" * 65536, BAD)
 
 
+NOTHING = b"end shape length\ntrials 0\n"
+
+
+def gap_cases(case):
+    case("a gap first", text_of([[1, 2]], [GAP, 1, 2]), b"end shape length\n2 0 2\ntrials 2\n")
+    case("a gap last", text_of([[1, 2]], [1, 2, GAP]), b"end shape length\n1 0 2\ntrials 2\n")
+    case("a gap between", text_of([[1, 2]], [1, GAP, 2]), b"end shape length\ntrials 2\n")
+    case("a gap is no lowest reading", text_of([[2, 1], [1, 2], [2, 1, 2]], [5, GAP, 5]), b"end shape length\ntrials 2\n")
+    case("gaps only", text_of([[1], [1, 2]], [GAP] * 5), NOTHING)
+    case("one reading a shape, and gaps", text_of([[7]], [GAP, 3, GAP, GAP, 4, 5, GAP]), b"end shape length\n1 0 1\n4 0 1\n5 0 1\ntrials 4\n")
+    case("a tail of equal trees, and a gap", text_of([[1, 1, 1]], [1, 1, 1, GAP, 1, 1, 1, 1]), b"end shape length\n2 0 3\n6 0 3\n7 0 3\ntrials 8\n")
+    many = [1 + i % 7 for i in range(257)]
+    for place in (0, 1, 128, 254, 255):
+        case("a gap in a long shape", text_of([many[:place] + [GAP] + many[place : 255]], many), b"refused 13\n")
+    case("too long, with a gap", text_of([many[:256] + [GAP]], [1]), b"refused 2\n")
+    case("a gap, then too long", text_of([[GAP], many], [1]), b"refused 13\n")
+    case("too long, then a gap", text_of([many, [GAP]], [1]), b"refused 2\n")
+    case("a gap in the 64th shape", text_of([[1]] * 63 + [[1, GAP]], [1]), b"refused 13\n")
+    case("a gap in the 65th shape", text_of([[1]] * 64 + [[1, GAP]], [1]), b"refused 13\n")
+    case("a gap in the 66th shape", text_of([[1]] * 65 + [[1, GAP]], [1]), b"refused 6\n")
+    case("a gap in the first of 65 shapes", text_of([[GAP]] + [[1]] * 64, [1]), b"refused 13\n")
+    case("a gap in a shape and one too low in the recording", text_of([[GAP]], [GAP - 1]), BAD)
+    case("one too low in a shape and a gap in the recording", text_of([[GAP - 1]], [GAP]), BAD)
+    case("a gap in a shape and a bad byte later", text_of([[GAP]], [1]) + b"x", BAD)
+    rng = random.Random(5)
+    for every in (1, 2, 3, 15, 16, 17, 18, 255, 257):
+        for first in (0, 1, every - 1) if every < 20 else (257 - every,):
+            recording = [rng.randrange(3) for _ in range(first + 2 * every + 5)]
+            behind = recording[first + 1 :]
+            gaps = [GAP if i >= first and (i - first) % every == 0 else x for i, x in enumerate(recording)]
+            case("gaps at every %d readings" % every, text_of([behind[: max(n, 1)] for n in (1, 2, every - 1, min(every, 256))], gaps))
+
+
 def call_cases(case):
     """More hits than one array takes."""
     rng = random.Random(2)
@@ -221,7 +273,7 @@ def random_cases(case, count):
     rng = random.Random(4)
     for _ in range(count):
         width = rng.choice([2, 3, 5, 10, 1000, 2**31])
-        low = rng.choice([0, -(width // 2), LOWEST]) if width < 2**31 else LOWEST
+        low = rng.choice([0, -(width // 2), GAP + 1]) if width < 2**31 else GAP + 1
         value = lambda: rng.randrange(low, min(low + 2 * width, HIGHEST + 1))
         longest = rng.choice([1, 2, 3, 5, 8, 12])
         shapes = [[value() for _ in range(rng.randrange(1, longest + 1))] for _ in range(rng.randrange(1, rng.choice([2, 5, 12, 65])))]
@@ -230,6 +282,11 @@ def random_cases(case, count):
             if rng.random() < 0.3:
                 at = rng.randrange(len(recording) + 1)
                 recording[at:at] = shape
+        if rng.random() < 0.4:
+            one_of = rng.choice([2, 5, 20])
+            recording = [GAP if rng.randrange(one_of) == 0 else x for x in recording]
+        if rng.random() < 0.04:
+            rng.choice(shapes)[-1] = GAP
         case("random", text_of(shapes, recording))
     for _ in range(count):
         data = bytearray(EXAMPLE if rng.random() < 0.5 else b"-10 3\n3\n0 -2 7\n\n4 4 -5 66 2\n")
@@ -330,6 +387,7 @@ if __name__ == "__main__":
     form_cases(write_case)
     number_cases(write_case)
     size_cases(write_case)
+    gap_cases(write_case)
     random_cases(write_case, 60)
     write(text_of([[5]], [5] * 4097), 8192, 40000)
     write_case("the longest recording, and no hit", b"2 1\n\n" + b" ".join([b"7"] * 32765) + b"\n")

@@ -9,6 +9,7 @@
 
 #define LONGEST 1048576u
 #define BEFORE 4000000007u
+#define GAP INT32_MIN
 
 static unsigned checks, wrong;
 
@@ -45,13 +46,21 @@ static size_t held(const uint32_t *words, size_t from, size_t n)
     return from;
 }
 
-/* Values with many ties, the lowest and the highest value among them. */
+/* Values with many ties, gaps and the lowest and the highest sample among them. */
 static void fill_values(int32_t *values, size_t n)
 {
     for (size_t i = 0; i < n; i++) {
         uint32_t x = any(40);
-        values[i] = x == 0 ? INT32_MIN : x == 1 ? INT32_MAX : (int32_t)(x % 7) - 3;
+        values[i] = x == 0 ? GAP : x == 1 ? INT32_MAX : x == 2 ? GAP + 1 : (int32_t)(x % 7) - 3;
     }
+}
+
+/* The lowest sample for each gap. */
+static void fill_gaps(int32_t *values, size_t n)
+{
+    for (size_t i = 0; i < n; i++)
+        if (values[i] == GAP)
+            values[i] = GAP + 1;
 }
 
 /* ---- the plain listing */
@@ -64,10 +73,11 @@ static uint32_t distance(const int32_t *window, size_t i)
     return 0;
 }
 
+/* A window that holds a gap has none. */
 static int has_distances(const int32_t *window, const uint32_t *distances, size_t n)
 {
     for (size_t i = 0; i < n; i++)
-        if (distance(window, i) != distances[i])
+        if (window[i] == GAP || distance(window, i) != distances[i])
             return 0;
     return 1;
 }
@@ -222,7 +232,8 @@ static void full_set(void)
     fill_values(text, TEXT);
     finder_empty_set(set, SET);
     for (size_t j = 0; j < 64; j++) {
-        /* windows of the text, and rising values, so that there are hits */
+        /* windows of the text, which hold no gap, and rising values, so that there are hits */
+        fill_gaps(text + j * 256, 64);
         for (size_t i = 0; i < 64; i++)
             values[i] = j % 8 == 7 ? (int32_t)(i / (j + 1)) : text[j * 256 + i];
         FinderCounts a = finder_add_pattern(set, SET, values, 64);
@@ -263,10 +274,38 @@ static void full_set(void)
     free(text);
 }
 
+/* 1,048,576 gaps: all are taken, and there is no hit, no attempt and no candidate. */
+static void only_gaps(void)
+{
+    static const int32_t one[1] = {5};
+    uint32_t set[5], automaton[32], hits[2];
+    int32_t *text = malloc(LONGEST * sizeof *text);
+
+    for (size_t i = 0; i < LONGEST; i++)
+        text[i] = GAP;
+    finder_empty_set(set, 5);
+    FinderCounts c = finder_add_pattern(set, 5, text, 1);
+    check(c.refusal == 13 && c.first == 0 && c.second == 0 && set[0] == 0, "a pattern that is a gap is 13");
+    finder_add_pattern(set, 5, one, 1);
+    finder_build_automaton(set, 5, automaton, 32);
+    fill(hits, 2);
+    FinderStreamed s = finder_stream_search(set, 5, automaton, 32, finder_new_search(), text, LONGEST, hits, 2);
+    check(s.refusal == 0 && s.ended == 1 && s.taken == LONGEST && s.hits == 0 && s.attempts == 0 && held(hits, 0, 2) == 2,
+          "1,048,576 gaps are taken, without hits and attempts");
+    FinderState cleared = finder_new_search();
+    cleared.taken = LONGEST;
+    check(same_state(&s.state, &cleared), "the state is a new one, with the values taken");
+    check(refuses(set, 5, automaton, 32, s.state, text, 1, hits, 2, 9), "and one gap more is 9");
+    c = finder_filter_search(set, 5, text, LONGEST, hits, 0);
+    check(c.refusal == 0 && c.first == 0 && c.second == 0, "a filter search has no hit and no candidate");
+    free(text);
+}
+
 int main(void)
 {
     whole_text();
     full_set();
+    only_gaps();
     printf("%u checks, %u wrong\n", checks, wrong);
     return wrong != 0;
 }

@@ -1,7 +1,8 @@
 """Reads the files of a fitter: named shapes, a recording, and what the program `hits` printed for them.
 
 Shapes: a line each, a name, a colon and the values. Recording: values with spaces or newlines between. Values are decimal and
-within the signed 32-bit range. A file that is none of these ends the script with a message that names the line.
+within the signed 32-bit range. The lowest, -2147483648, is a gap: the recorder had no sample there. A recording may hold gaps,
+a shape holds none. A file that is none of these ends the script with a message that names the line.
 """
 import re
 import sys
@@ -11,6 +12,7 @@ MOST_SHAPES = 64
 LONGEST_RECORDING = 1048576
 NUMBER = re.compile(r"-?[0-9]{1,20}")
 LOWEST, HIGHEST = -(2**31), 2**31 - 1
+GAP = LOWEST
 
 
 class BadFile(Exception):
@@ -60,6 +62,8 @@ def read_shapes(name):
         values = values_of(name, line, numbers)
         if not 1 <= len(values) <= LONGEST_SHAPE:
             refuse(name, line, "a shape has 1 to %d values, this one has %d" % (LONGEST_SHAPE, len(values)))
+        if GAP in values:
+            refuse(name, line, "a shape holds no gap (%d)" % GAP)
         shapes.append((title, values))
     if not 1 <= len(shapes) <= MOST_SHAPES:
         refuse(name, 0, "1 to %d shapes are wanted, here are %d" % (MOST_SHAPES, len(shapes)))
@@ -86,6 +90,16 @@ def distances(values):
     return result
 
 
+def samples_from(recording):
+    """At each place where the samples up to it begin: behind the last gap."""
+    result, begin = [], 0
+    for i, value in enumerate(recording):
+        if value == GAP:
+            begin = i + 1
+        result.append(begin)
+    return result
+
+
 def check_order(name, line, hit, lines):
     """Hits rise by last place, then longer shape first, then lower number. `lines` has the hits above, each with its line."""
     if hit in lines:
@@ -96,11 +110,12 @@ def check_order(name, line, hit, lines):
     lines[hit] = line
 
 
-def check_closing(name, line, digits, values):
-    """Each value takes an attempt, and all together at most two a value."""
-    if len(digits) > 9 or not values <= int(digits) <= 2 * values:
-        told = (digits[:30], values, values, 2 * values)
-        refuse(name, line, "%s attempts cannot be: a recording of %d values takes %d to %d" % told)
+def check_closing(name, line, digits, recording):
+    """Each sample takes an attempt, and all together at most two a value."""
+    values, samples = len(recording), sum(value != GAP for value in recording)
+    if len(digits) > 9 or not samples <= int(digits) <= 2 * values:
+        told = (digits[:30], values, samples, samples, 2 * values)
+        refuse(name, line, "%s attempts cannot be: a recording of %d values, %d of them samples, takes %d to %d" % told)
 
 
 def read_hits(name, shapes, recording):
@@ -113,7 +128,7 @@ def read_hits(name, shapes, recording):
     if len(lines) < 3 or lines[-1] or not re.fullmatch(r"trials [0-9]+", lines[-2]):
         refuse(name, len(lines), "the list is cut off: its last line is 'trials' and a number")
     of_shapes = [distances(values) for _, values in shapes]
-    of_recording = distances(recording)
+    of_recording, begin = distances(recording), samples_from(recording)
     hits, line_of = [], {}
     for line, text in enumerate(lines[1:-2], 2):
         if not re.fullmatch(r"[0-9]{1,9} [0-9]{1,9} [0-9]{1,9}", text):
@@ -121,10 +136,12 @@ def read_hits(name, shapes, recording):
         last, shape, length = map(int, text.split(" "))
         if shape >= len(shapes) or length != len(shapes[shape][1]) or not length - 1 <= last < len(recording):
             refuse(name, line, "this hit is not of these shapes and this recording")
+        if last + 1 - length < begin[last]:
+            refuse(name, line, "the window that ends at %d holds a gap" % last)
         window = of_recording[last + 1 - length : last + 1]
         if of_shapes[shape] != [d if d <= i else 0 for i, d in enumerate(window)]:
             refuse(name, line, "the window that ends at %d does not have the shape '%s'" % (last, shapes[shape][0]))
         check_order(name, line, (last, -length, shape), line_of)
         hits.append((last, shape))
-    check_closing(name, len(lines) - 1, lines[-2].split(" ")[1], len(recording))
+    check_closing(name, len(lines) - 1, lines[-2].split(" ")[1], recording)
     return hits

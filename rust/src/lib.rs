@@ -1,5 +1,5 @@
 //! Finds Cartesian-tree shapes in recordings: two stretches of values match when their Cartesian trees are equal (the leftmost
-//! lowest value is the root).
+//! lowest value is the root). A value of [`GAP`] in a text is no sample: a window that holds one is no hit.
 //!
 //! This crate is a thin, safe wrapper over a proved library; all `unsafe` code is in [`raw`].
 //!
@@ -30,6 +30,19 @@ pub mod raw;
 
 use std::fmt;
 
+/// The value of a text where the recorder had no sample. A window that holds one has no tree, so it is no hit of any pattern; a
+/// pattern that holds one is refused.
+///
+/// ```
+/// use finder::{Hit, Refusal, Set, GAP};
+/// let mut set = Set::new();
+/// set.add(&[1, 2])?;
+/// assert_eq!(set.search(&[3, 4, GAP, 6, 7])?.hits, [1, 4].map(|last| Hit { last, pattern: 0 }));
+/// assert_eq!(set.add(&[1, GAP]), Err(Refusal::HoldsGap));
+/// # Ok::<(), Refusal>(())
+/// ```
+pub const GAP: i32 = i32::MIN;
+
 /// Why a call was refused; the numbers are those of the library. A refused call has changed nothing.
 #[derive(Clone, Copy, Debug, PartialEq, Eq, Hash)]
 #[repr(u32)]
@@ -58,6 +71,8 @@ pub enum Refusal {
     ListTooLong = 11,
     /// A catalogue is involved and the distance list is longer than 10.
     CatalogueTooLong = 12,
+    /// A pattern given as values holds a gap.
+    HoldsGap = 13,
 }
 
 impl Refusal {
@@ -65,7 +80,7 @@ impl Refusal {
         use Refusal::*;
         let all = [
             Empty, TooLong, CodeTooLong, NotRealizable, BrokenSet, SetFull, OtherAutomaton, BrokenState, TextTooLong,
-            ArrayTooShort, ListTooLong, CatalogueTooLong,
+            ArrayTooShort, ListTooLong, CatalogueTooLong, HoldsGap,
         ];
         match number {
             0 => Ok(()),
@@ -252,8 +267,8 @@ impl Set {
 pub struct Found {
     /// The hits, in their order.
     pub hits: Vec<Hit>,
-    /// The candidates: pairs of a pattern and a window within the text whose last values fall at the same places (they have one
-    /// fingerprint); compared are as many values as the shortest pattern has, 17 at most. Every hit is a candidate.
+    /// The candidates: pairs of a pattern and a window within the text, without a gap, whose last values fall at the same places
+    /// (they have one fingerprint); compared are as many values as the shortest pattern has, 17 at most. Every hit is a candidate.
     pub candidates: usize,
 }
 

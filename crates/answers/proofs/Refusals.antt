@@ -20,6 +20,7 @@ refusals =
     ∷ some Refusal.ArrayTooShort
     ∷ some Refusal.ListTooLong
     ∷ some Refusal.CatalogueTooLong
+    ∷ some Refusal.HoldsGap
     ∷ []
 
 back : (r : Refusal) → getD refusals (number r) none ≡ some r
@@ -36,6 +37,7 @@ back Refusal.TextTooLong = refl
 back Refusal.ArrayTooShort = refl
 back Refusal.ListTooLong = refl
 back Refusal.CatalogueTooLong = refl
+back Refusal.HoldsGap = refl
 
 pub number-injective : (r s : Refusal) → number r ≡ number s → r ≡ s
 number-injective r s e = Option·some-injective r s (sym (back r) ∙ ap (λ (n : ℕ). getD refusals n none) e ∙ back s)

@@ -18,6 +18,7 @@ number Refusal.TextTooLong = 9
 number Refusal.ArrayTooShort = 10
 number Refusal.ListTooLong = 11
 number Refusal.CatalogueTooLong = 12
+number Refusal.HoldsGap = 13
 
 -- refusal and number of words
 abbrev pub toldWritten : Written → ℕ × ℕ

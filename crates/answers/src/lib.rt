@@ -3,7 +3,7 @@
 ghost use Rattle.lists.specs.Prelude.{_≡_};
 ghost use Rattle.answers.specs.Told.{number, newSearch};
 
-// The reasons for a refusal; documents 01 and 02 number them 1 to 12 in this order.
+// The reasons for a refusal; documents 01 and 02 number them 1 to 13 in this order.
 pub enum Refusal {
     Empty,
     TooLong,
@@ -17,6 +17,7 @@ pub enum Refusal {
     ArrayTooShort,
     ListTooLong,
     CatalogueTooLong,
+    HoldsGap,
 }
 
 // The number of words or values at the front of the lent array that hold the result.
@@ -51,9 +52,9 @@ pub enum Built {
     Refused(Refusal),
 }
 
-// The hits listed, and the candidates: the pairs of a pattern and a window within the text whose
-// last values, as many as the filter compares, have one fingerprint. Not every candidate need be
-// checked.
+// The hits listed, and the candidates: the pairs of a pattern and a window within the text, without
+// a gap, whose last values, as many as the filter compares, have one fingerprint. Not every
+// candidate need be checked.
 pub enum Filtered {
     Found(usize, usize),
     Refused(Refusal),
@@ -131,5 +132,6 @@ pub fn refusal_number(r: Refusal) -> u32
         Refusal::ArrayTooShort => 10,
         Refusal::ListTooLong => 11,
         Refusal::CatalogueTooLong => 12,
+        Refusal::HoldsGap => 13,
     }
 }

@@ -17,7 +17,7 @@ use Rattle.realization.specs.Realization.{realizable, leastRealization}
 use Rattle.cartesian.specs.Cartesian.{distances}
 use Rattle.cartesian.proofs.Seek.{length-distances}
 use Rattle.matching.specs.Matching.{isHead, headTree, failure}
-use Rattle.matching.proofs.Heads.{headTree-isHead, realizable-take, head-shorter}
+use Rattle.matching.proofs.Heads.{headTree-whole, headTree-isHead, realizable-take, head-shorter}
 use Rattle.pattern_set.proofs.Good.{good-pattern, good-realizable}
 use Rattle.automaton_model.specs.Automaton.{putIn, level, nodes, headOf, placeIn, nodeOf}
 use Rattle.lists.proofs.Before.{Before, before-irrefl, before-trans, before-asym, before-antisym, before-nil}
@@ -301,7 +301,8 @@ failure-isHead ps g h t =
         let n : lastOf 0 xs ≡ [] = drop-of-length-le xs {i = length xs - 0} (omega arith) in
         subst (λ (l : List ℤ). T (isHead ps (distances l))) (sym n) (head-shorter ps h 0 t)
     go xs (suc q) e =
-        subst T (headTree-isHead ps (lastOf q xs) (good-realizable ps g)) (lastBelow-passes (λ m. headTree ps (lastOf m xs)) (length h) q e)
+        let p = lastBelow-passes (λ m. headTree ps (lastOf m xs)) (length h) q e in
+        subst T (headTree-isHead ps (lastOf q xs) (headTree-whole ps (lastOf q xs) p) (good-realizable ps g)) p
 
 -- so that of a node leads to a node, whose head is the failure of the node's
 pub failure-head : (ps : PatternSet) → T (goodSet ps) → (n f : ℕ) → n < length (nodes ps) → f ≡ nodeOf ps (failure ps (headOf ps n))

@@ -15,7 +15,7 @@ use Rattle.realization.proofs.Suffixes.{suffix-realized, suffix-all}
 use Rattle.pattern_set.specs.PatternSet.{PatternSet, goodSet}
 use Rattle.pattern_set.proofs.Good.{good-realizable}
 use Rattle.matching.specs.Matching.{isHead, headTree, failure}
-use Rattle.matching.proofs.Heads.{headTree-isHead, head-shorter, failure-next}
+use Rattle.matching.proofs.Heads.{headTree-isHead, head-shorter, least-whole, failure-next}
 use Rattle.automaton_model.specs.Automaton.{extended, advance}
 use Rattle.automaton_model.proofs.Nodes.{head-realizable, failure-shorter}
 use Rattle.automaton_model.proofs.Advance.{root-child, advance-there, advance-missing}
@@ -30,10 +30,10 @@ failure-suffix : (ps : PatternSet) → T (goodSet ps) → (h : List ℕ) → T (
 failure-suffix ps g h t n l =
     let xs = leastRealization h in
     ap (failure ps) (sym (suffix-realized n h t))
-    ∙ failure-next ps xs n (omega (arith, length-least h t))
+    ∙ failure-next ps xs n (omega (arith, length-least h t)) (least-whole n h)
     ∙ ap (λ (q : ℕ). distances (lastOf (pred q) xs))
     (lastBelow-ext (λ m. headTree ps (lastOf m xs)) (headSuffix ps h) n
-    (λ m k. headTree-isHead ps (lastOf m xs) (good-realizable ps g) ∙ ap (isHead ps) (suffix-realized m h t)))
+    (λ m k. headTree-isHead ps (lastOf m xs) (least-whole m h) (good-realizable ps g) ∙ ap (isHead ps) (suffix-realized m h t)))
     ∙ suffix-realized (pred (lastBelow (headSuffix ps h) n)) h t
 
 -- a suffix with the tree of some head that is shorter is not passed over

@@ -2,7 +2,7 @@
 -- `distances-list` says that they are the distances.
 use Rattle.lists.proofs.Prelude.{_≡_, _∙_, ap, sym, refl, Bool, true, false, cond, List, [], _∷_, _++_, ℕ, zero, suc, _+_, _-_, _≤_, ℤ, pos, leZ, length, getD}
 use Rattle.lists.proofs.Prelude.{take, take-suc, take-length, le-refl, arith, tabulate, lastBelow}
-use Rattle.cartesian.specs.Cartesian.{seek, gap, distanceAt, distances}
+use Rattle.cartesian.specs.Cartesian.{seek, apart, distanceAt, distances}
 use Rattle.cartesian.proofs.Seek.{seek-le}
 
 -- back rev x k: rev is what stands before x, nearest first; k is the distance of rev's head
@@ -29,36 +29,36 @@ unfolding onto
 onto-snoc [] rev y = refl
 onto-snoc (x ∷ a) rev y = onto-snoc a (x ∷ rev) y
 
-abbrev gapk : ℕ → ℕ → ℕ → ℕ
-gapk k n zero = 0
-gapk k n (suc j) = suc k + (n - suc j)
+abbrev apartFrom : ℕ → ℕ → ℕ → ℕ
+apartFrom k n zero = 0
+apartFrom k n (suc j) = suc k + (n - suc j)
 
-gapk-suc : (k n q : ℕ) → q ≤ n → gapk (suc k) n q ≡ gapk k (suc n) q
-gapk-suc k n zero h = refl
-gapk-suc k n (suc j) h = omega arith
+apartFrom-suc : (k n q : ℕ) → q ≤ n → apartFrom (suc k) n q ≡ apartFrom k (suc n) q
+apartFrom-suc k n zero h = refl
+apartFrom-suc k n (suc j) h = omega arith
 
-back-seek : (s : List ℤ) (x : ℤ) (k n : ℕ) → n ≤ length s → back (onto (take n s) []) x (suc k) ≡ gapk k n (seek s x n)
+back-seek : (s : List ℤ) (x : ℤ) (k n : ℕ) → n ≤ length s → back (onto (take n s) []) x (suc k) ≡ apartFrom k n (seek s x n)
 unfolding back lastBelow onto
 back-seek s x k zero h = refl
 back-seek s x k (suc n) h =
     rw (take-suc s n (pos 0) (omega arith), onto-snoc)
     (go (leZ (getD s n (pos 0)) x) (back-seek s x (suc k) n (omega arith)))
   where
-    go : (b : Bool) → back (onto (take n s) []) x (suc (suc k)) ≡ gapk (suc k) n (seek s x n)
-        → cond b (suc k) (back (onto (take n s) []) x (suc (suc k))) ≡ gapk k (suc n) (cond b (suc n) (seek s x n))
+    go : (b : Bool) → back (onto (take n s) []) x (suc (suc k)) ≡ apartFrom (suc k) n (seek s x n)
+        → cond b (suc k) (back (onto (take n s) []) x (suc (suc k))) ≡ apartFrom k (suc n) (cond b (suc n) (seek s x n))
     go true e = omega arith
-    go false e = e ∙ gapk-suc k n (seek s x n) (seek-le s x n)
+    go false e = e ∙ apartFrom-suc k n (seek s x n) (seek-le s x n)
 
-gapk-gap : (n q : ℕ) → q ≤ n → gapk 0 n q ≡ gap n q
-gapk-gap n zero h = refl
-gapk-gap n (suc j) h = omega arith
+apartFrom-apart : (n q : ℕ) → q ≤ n → apartFrom 0 n q ≡ apart n q
+apartFrom-apart n zero h = refl
+apartFrom-apart n (suc j) h = omega arith
 
 pub tabulate-list : (s : List ℤ) (n : ℕ) → n ≤ length s → tabulate n (distanceAt s) ≡ distsFrom [] (take n s)
 unfolding tabulate distanceAt distsFrom
 tabulate-list s zero h = refl
 tabulate-list s (suc n) h =
     let x = getD s n (pos 0) in
-    let d : distanceAt s n ≡ back (onto (take n s) []) x 1 = sym (back-seek s x 0 n (omega arith) ∙ gapk-gap n (seek s x n) (seek-le s x n)) in
+    let d : distanceAt s n ≡ back (onto (take n s) []) x 1 = sym (back-seek s x 0 n (omega arith) ∙ apartFrom-apart n (seek s x n) (seek-le s x n)) in
     rw (take-suc s n (pos 0) (omega arith), dists-app [] (take n s) (x ∷ []), d)
     (ap (λ (l : List ℕ). l ++ (back (onto (take n s) []) x 1 ∷ [])) (tabulate-list s n (omega arith)))
 

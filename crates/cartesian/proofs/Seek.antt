@@ -5,7 +5,7 @@ use Rattle.lists.proofs.Prelude.{_≡_, _∙_, ap, sym, refl, Bool, true, false
 use Rattle.lists.proofs.Prelude.{≤ℤ-refl, <ℤ-≤ℤ-trans, length, getD, drop, getD-drop, add-zero, add-suc, arith, le-leb, lt-leb, tabulate, lastBelow}
 use Rattle.lists.proofs.LastBelow.{lastBelow-le, lastBelow-no}
 use Rattle.lists.proofs.Tables.{length-tabulate, getD-tabulate}
-use Rattle.cartesian.specs.Cartesian.{seek, gap, distanceAt, distances, cut}
+use Rattle.cartesian.specs.Cartesian.{seek, apart, distanceAt, distances, cut}
 
 -- of two equal values the later one does not close the earlier one
 pub equal-distances : (x : ℤ) → distances (x ∷ x ∷ []) ≡ 0 ∷ 1 ∷ []
@@ -26,15 +26,15 @@ getD-distances s d i h = getD-tabulate (length s) (distanceAt s) d i h
 -- what the two arms of the loop store
 pub dist-none : (s : List ℤ) (i k : ℕ) → k ≡ seek s (getD s i (pos 0)) i → k ≡ 0 → 0 ≡ distanceAt s i
 unfolding distanceAt
-dist-none s i k e z = ap (gap i) (sym z ∙ e)
+dist-none s i k e z = ap (apart i) (sym z ∙ e)
 
-gap-some : (i k : ℕ) → (k ≡ 0 → ⊥) → i + 1 - k ≡ gap i k
-gap-some i zero h = absurd (h refl)
-gap-some i (suc k) h = omega arith
+apart-some : (i k : ℕ) → (k ≡ 0 → ⊥) → i + 1 - k ≡ apart i k
+apart-some i zero h = absurd (h refl)
+apart-some i (suc k) h = omega arith
 
 pub dist-some : (s : List ℤ) (i k : ℕ) → k ≡ seek s (getD s i (pos 0)) i → (k ≡ 0 → ⊥) → i + 1 - k ≡ distanceAt s i
 unfolding distanceAt
-dist-some s i k e z = gap-some i k z ∙ ap (gap i) e
+dist-some s i k e z = apart-some i k z ∙ ap (apart i) e
 
 -- ---- a window: the values from a on
 
@@ -54,10 +54,10 @@ seek-drop s a x (suc i) = rw (add-suc, getD-drop) (go (leZ (getD s (a + i) (pos 
     go true e = refl
     go false e = e
 
-gap-cut : (a i q k : ℕ) → q ≤ a → k ≤ i → gap i k ≡ cut i (gap (a + i) (inWhole a q k))
-gap-cut a i zero zero hq hk = rw (le-leb 0 i zero-le) refl
-gap-cut a i (suc j) zero hq hk = rw (lt-leb (a + i - j) i (omega arith)) refl
-gap-cut a i q (suc j) hq hk =
+apart-cut : (a i q k : ℕ) → q ≤ a → k ≤ i → apart i k ≡ cut i (apart (a + i) (inWhole a q k))
+apart-cut a i zero zero hq hk = rw (le-leb 0 i zero-le) refl
+apart-cut a i (suc j) zero hq hk = rw (lt-leb (a + i - j) i (omega arith)) refl
+apart-cut a i q (suc j) hq hk =
     let e : a + i - (a + j) ≡ i - j = omega arith in
     rw (e, le-leb (i - j) i (omega arith)) refl
 
@@ -66,7 +66,7 @@ pub distanceAt-drop : (s : List ℤ) (a i : ℕ) → distanceAt (drop a s) i ≡
 unfolding distanceAt
 distanceAt-drop s a i =
     let x = getD s (a + i) (pos 0) in
-    rw (getD-drop, seek-drop s a x i) (gap-cut a i (seek s x a) (seek (drop a s) x i) (seek-le s x a) (seek-le (drop a s) x i))
+    rw (getD-drop, seek-drop s a x i) (apart-cut a i (seek s x a) (seek (drop a s) x i) (seek-le s x a) (seek-le (drop a s) x i))
 
 -- ---- known distances as links
 
@@ -83,32 +83,32 @@ jump : (s : List ℤ) (x : ℤ) (k : ℕ) → 0 < k → leZ (getD s (k - 1) (pos
 jump s x k h e = lastBelow-no (λ j. leZ (getD s j (pos 0)) x) k h e ∙ skip s x (getD s (k - 1) (pos 0)) (k - 1) (leZ-above (getD s (k - 1) (pos 0)) x e)
 
 -- a distance gives its link back
-gap-none : (n q : ℕ) → q ≤ n → gap n q ≡ 0 → q ≡ 0
-gap-none n zero h e = refl
-gap-none n (suc j) h e = omega arith
+apart-none : (n q : ℕ) → q ≤ n → apart n q ≡ 0 → q ≡ 0
+apart-none n zero h e = refl
+apart-none n (suc j) h e = omega arith
 
-gap-link : (n q : ℕ) → q ≤ n → (gap n q ≡ 0 → ⊥) → q ≡ n + 1 - gap n q
-gap-link n zero h e = absurd (e refl)
-gap-link n (suc j) h e = omega arith
+apart-link : (n q : ℕ) → q ≤ n → (apart n q ≡ 0 → ⊥) → q ≡ n + 1 - apart n q
+apart-link n zero h e = absurd (e refl)
+apart-link n (suc j) h e = omega arith
 
 pub distance-le : (s : List ℤ) (n : ℕ) → distanceAt s n ≤ n
 unfolding distanceAt
 distance-le s n = go (seek s (getD s n (pos 0)) n)
   where
-    go : (q : ℕ) → gap n q ≤ n
+    go : (q : ℕ) → apart n q ≤ n
     go zero = omega arith
     go (suc j) = omega arith
 
 pub jump-none : (s : List ℤ) (x : ℤ) (k d : ℕ) → 0 < k → leZ (getD s (k - 1) (pos 0)) x ≡ false → d ≡ distanceAt s (k - 1) → d ≡ 0 → 0 ≡ seek s x k
 unfolding distanceAt lastBelow
 jump-none s x k d h e p z =
-    sym (jump s x k h e ∙ ap (seek s x) (gap-none (k - 1) (seek s (getD s (k - 1) (pos 0)) (k - 1)) (seek-le s (getD s (k - 1) (pos 0)) (k - 1)) (sym p ∙ z)))
+    sym (jump s x k h e ∙ ap (seek s x) (apart-none (k - 1) (seek s (getD s (k - 1) (pos 0)) (k - 1)) (seek-le s (getD s (k - 1) (pos 0)) (k - 1)) (sym p ∙ z)))
 
 pub jump-some : (s : List ℤ) (x : ℤ) (k d : ℕ) → 0 < k → leZ (getD s (k - 1) (pos 0)) x ≡ false → d ≡ distanceAt s (k - 1) → (d ≡ 0 → ⊥)
     → seek s x k ≡ seek s x (k - d)
 unfolding distanceAt
 jump-some s x k d h e p z =
     let q = seek s (getD s (k - 1) (pos 0)) (k - 1) in
-    let l = gap-link (k - 1) q (seek-le s (getD s (k - 1) (pos 0)) (k - 1)) (λ g. z (p ∙ g)) in
+    let l = apart-link (k - 1) q (seek-le s (getD s (k - 1) (pos 0)) (k - 1)) (λ g. z (p ∙ g)) in
     let m : q ≡ k - d = omega (arith, l, p) in
     jump s x k h e ∙ ap (seek s x) m

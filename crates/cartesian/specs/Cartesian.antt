@@ -53,13 +53,13 @@ abbrev pub seek : List ℤ → ℤ → ℕ → ℕ
 seek xs x n = lastBelow (λ j. leZ (getD xs j (pos 0)) x) n
 
 -- i - j for a `seek` that answers suc j; 0 where it answers 0
-abbrev pub gap : ℕ → ℕ → ℕ
-gap i zero = 0
-gap i (suc j) = i - j
+abbrev pub apart : ℕ → ℕ → ℕ
+apart i zero = 0
+apart i (suc j) = i - j
 
 -- the parent distance at place i
 unfoldable pub distanceAt : List ℤ → ℕ → ℕ
-distanceAt xs i = gap i (seek xs (getD xs i (pos 0)) i)
+distanceAt xs i = apart i (seek xs (getD xs i (pos 0)) i)
 
 unfoldable pub distances : List ℤ → List ℕ
 distances xs = tabulate (length xs) (distanceAt xs)

@@ -1,8 +1,8 @@
-// Search states that were not handed back by a search: those that document 01's refusal 8 names,
-// each refused under 8 with the state handed back as it was and no word written, by calls with a
-// value and by calls with none and a hit array that is too short; and states just beside them,
-// which are accepted. The set has one pattern of three rising values, so its automaton has the
-// nodes 0 to 3, of depths 0 to 3.
+// Search states that were not handed back by a search: those that refusal 8 names, each refused
+// under 8 with the state handed back as it was and no word written, by calls with a value and by
+// calls with none and a hit array that is too short; and states just beside them, which are
+// accepted. Documents 01, and 02, 2.2. The set has one pattern of three rising values, so its
+// automaton has the nodes 0 to 3, of depths 0 to 3.
 use answers::Counts;
 use answers::SearchState;
 use answers::StreamAnswer;
@@ -123,8 +123,52 @@ fn good_states(group: &[u8]) -> Tally {
         b"one value taken",
         accepted(state_at(9, 1, 1, 1, &[0, 0, 0], &[2147483647, 0, 0])),
     );
+    t = test_tally::named(
+        t,
+        b"minima at the root",
+        accepted(state_at(0, 3, 0, 1, &[2, 0, 0], &[1, 0, 0])),
+    );
+    t = after_gaps(t);
     test_tally::report(group, t);
     t
+}
+
+// Values taken, the root, and no open minimum, whatever the slots hold. A slot that holds the value
+// of a gap is judged like any other.
+fn after_gaps(before: Tally) -> Tally {
+    let mut t = before;
+    t = test_tally::named(
+        t,
+        b"no minimum at the root, one value taken",
+        accepted(state_at(0, 1, 0, 0, &[0, 0, 0], &[0, 0, 0])),
+    );
+    t = test_tally::named(
+        t,
+        b"no minimum at the root, three values taken",
+        accepted(state_at(0, 3, 0, 0, &[0, 1, 2], &[1, 2, 3])),
+    );
+    t = test_tally::named(
+        t,
+        b"no minimum at the root, and slots that are no minima",
+        accepted(state_at(255, 300, 0, 0, &[299, 7, 4294967295], &[3, 1, 2])),
+    );
+    t = test_tally::named(
+        t,
+        b"no minimum at the root, all values taken",
+        accepted(state_at(3, 1048576, 0, 0, &[0, 0, 0], &[0, 0, 0])),
+    );
+    test_tally::named(
+        t,
+        b"minima of the lowest value of all",
+        accepted(state_at(
+            254,
+            300,
+            2,
+            3,
+            &[44, 298, 299],
+            &[-2147483648, -2147483648, 7],
+        )),
+    )
 }
 
 // Falling values; places that do not rise.
@@ -139,6 +183,11 @@ fn disordered(before: Tally) -> Tally {
         t,
         b"falling values over the end of the ring",
         refused(state_at(255, 3, 0, 3, &[0, 1, 2], &[3, 1, 2])),
+    );
+    t = test_tally::named(
+        t,
+        b"the lowest value of all as the last one",
+        refused(state_at(0, 3, 0, 3, &[0, 1, 2], &[1, 2, -2147483648])),
     );
     t = test_tally::named(
         t,
@@ -158,7 +207,7 @@ fn disordered(before: Tally) -> Tally {
 }
 
 // A last place that is not the last taken; a first one that is too far back; minima with nothing
-// taken, and none with something taken.
+// taken.
 fn misplaced(before: Tally) -> Tally {
     let mut t = before;
     t = test_tally::named(
@@ -178,13 +227,48 @@ fn misplaced(before: Tally) -> Tally {
     );
     t = test_tally::named(
         t,
-        b"a minimum with nothing taken",
-        refused(state_at(0, 0, 0, 1, &[0, 0, 0], &[0, 0, 0])),
+        b"a last place before the last taken, at the root",
+        refused(state_at(0, 3, 0, 1, &[1, 0, 0], &[1, 0, 0])),
     );
     test_tally::named(
         t,
-        b"no minimum with something taken",
-        refused(state_at(0, 3, 0, 0, &[0, 1, 2], &[1, 2, 3])),
+        b"a minimum with nothing taken",
+        refused(state_at(0, 0, 0, 1, &[0, 0, 0], &[0, 0, 0])),
+    )
+}
+
+// A node other than the root, of each depth, and no minimum.
+fn without_minima(before: Tally) -> Tally {
+    let mut t = before;
+    t = test_tally::named(
+        t,
+        b"no minimum at node 1, one value taken",
+        refused(state_at(0, 1, 1, 0, &[0, 0, 0], &[0, 0, 0])),
+    );
+    t = test_tally::named(
+        t,
+        b"no minimum at node 1, three values taken",
+        refused(state_at(0, 3, 1, 0, &[0, 1, 2], &[1, 2, 3])),
+    );
+    t = test_tally::named(
+        t,
+        b"no minimum at node 2",
+        refused(state_at(255, 300, 2, 0, &[298, 299, 0], &[1, 2, 0])),
+    );
+    t = test_tally::named(
+        t,
+        b"no minimum at node 3",
+        refused(state_at(0, 3, 3, 0, &[0, 1, 2], &[1, 2, 3])),
+    );
+    t = test_tally::named(
+        t,
+        b"no minimum at the node behind the last",
+        refused(state_at(0, 3, 4, 0, &[0, 1, 2], &[1, 2, 3])),
+    );
+    test_tally::named(
+        t,
+        b"no minimum at the root, one value too many taken",
+        refused(state_at(0, 1048577, 0, 0, &[0, 0, 0], &[0, 0, 0])),
     )
 }
 
@@ -225,7 +309,7 @@ fn outside(before: Tally) -> Tally {
 }
 
 fn bad_states(group: &[u8]) -> Tally {
-    let t = outside(misplaced(disordered(test_tally::none())));
+    let t = without_minima(outside(misplaced(disordered(test_tally::none()))));
     test_tally::report(group, t);
     t
 }

@@ -86,6 +86,24 @@ fn expect_call(
     }
 }
 
+// Behind gaps only, the state is expected to be the one before them, at the root and with no open
+// minimum, to the last slot.
+fn expect_cleared(
+    before: SearchState,
+    after: SearchState,
+    text: &[i32],
+    from: usize,
+    to: usize,
+) -> Difference {
+    if from >= to {
+        return difference::none();
+    }
+    if test_plain::next_sample(text, from) < to {
+        return difference::none();
+    }
+    test_states::expect_same(test_states::cleared(before, arrays::narrow(to)), after)
+}
+
 // What a call answered, the hits that it wrote, and the state that it handed back, held against
 // what is expected.
 fn expect_step(
@@ -131,9 +149,11 @@ fn step_in(
     arrays::hold(hits, arrays::BEFORE);
     let s = call(set, automaton, state, text, from, end, room, hits);
     let after = s.state;
+    let d = expect_step(set, automaton, s, text, want, hits, x, x.to == end, from);
+    let cleared = expect_cleared(state, after, text, from, x.to);
     Step {
         state: after,
-        difference: expect_step(set, automaton, s, text, want, hits, x, x.to == end, from),
+        difference: difference::first(d, cleared),
     }
 }
 

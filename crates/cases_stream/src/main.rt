@@ -1,7 +1,10 @@
 // Runs of stream search calls, with refused calls between them, held against the plain search of
 // the crate test_plain: the hits, the values taken, ended or full, the attempts, the words behind
-// the hits, and after every call the node and the open minima of the state that is handed back.
+// the hits, and after every call the node and the open minima of the state that is handed back;
+// behind gaps only, the whole state. Texts with gaps are cut into calls about the gaps.
 mod calls;
+mod cuts;
+mod gap_runs;
 mod refused;
 mod runs;
 
@@ -12,6 +15,30 @@ fn random_cases(group: &[u8], n: usize) -> Tally {
     let mut i: usize = 0;
     while i < n {
         t = test_tally::numbered(t, group, i, runs::random_case(i));
+        i += 1;
+    }
+    test_tally::report(group, t);
+    t
+}
+
+// Texts with scattered gaps.
+fn scattered_gaps(group: &[u8], n: usize) -> Tally {
+    let mut t = test_tally::none();
+    let mut i: usize = 0;
+    while i < n {
+        t = test_tally::numbered(t, group, i, gap_runs::scattered_case(i));
+        i += 1;
+    }
+    test_tally::report(group, t);
+    t
+}
+
+// Texts with gaps at a distance from each other.
+fn gaps_apart(group: &[u8], n: usize) -> Tally {
+    let mut t = test_tally::none();
+    let mut i: usize = 0;
+    while i < n {
+        t = test_tally::numbered(t, group, i, gap_runs::apart_case(i));
         i += 1;
     }
     test_tally::report(group, t);
@@ -32,5 +59,10 @@ fn cut_cases(group: &[u8]) -> Tally {
 fn main() {
     let a = random_cases(b"random runs: ", 1000);
     let b = cut_cases(b"600 values: ");
-    test_tally::report(b"in all ", test_tally::both(a, b));
+    let c = scattered_gaps(b"random runs with gaps: ", 500);
+    let d = gaps_apart(b"gaps at distances: ", 128);
+    test_tally::report(
+        b"in all ",
+        test_tally::both(test_tally::both(a, b), test_tally::both(c, d)),
+    );
 }

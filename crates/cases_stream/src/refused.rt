@@ -76,8 +76,18 @@ fn other_search(s: SearchState, text: &[i32]) -> Difference {
     smaller_automaton(s, text, &mut automaton)
 }
 
+// One value more taken: the last of the open minima is not the last value taken. Where no minimum
+// is open, a node other than the root.
+fn one_more_taken(s: SearchState) -> SearchState {
+    let taken = std::num::wrapping_add_u32(s.taken, 1);
+    if s.minima == 0 {
+        return test_states::changed(s, 1, taken);
+    }
+    test_states::changed(s, s.node, taken)
+}
+
 // A node outside of the automaton, more values taken than a search takes, and minima that do not
-// end with the last value taken: 8.
+// end with the last value taken or are missing: 8.
 fn broken_states(set: &[u32], automaton: &[u32], s: SearchState, text: &[i32]) -> Difference {
     let n = arrays::narrow(number_of_nodes(set, automaton));
     let a = calls::expect_refused(
@@ -96,14 +106,7 @@ fn broken_states(set: &[u32], automaton: &[u32], s: SearchState, text: &[i32]) -
         0,
         8,
     );
-    let c = calls::expect_refused(
-        set,
-        automaton,
-        test_states::changed(s, s.node, std::num::wrapping_add_u32(s.taken, 1)),
-        text,
-        256,
-        8,
-    );
+    let c = calls::expect_refused(set, automaton, one_more_taken(s), text, 256, 8);
     difference::first(a, difference::first(b, c))
 }
 

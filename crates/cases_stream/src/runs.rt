@@ -1,6 +1,7 @@
 // Runs: lists of calls from a new state.
 ghost use Rattle.lists.specs.Prelude.{_<_};
 use crate::calls;
+use crate::cuts;
 use crate::refused;
 use answers::SearchState;
 use test_differences::difference;
@@ -9,20 +10,21 @@ use test_differences::difference::Part;
 use test_inputs::arrays;
 use test_inputs::texts;
 
-// One call of a run, after refused ones: up to 12 values, and a hit array of at least 2 words for
-// each pattern.
+// One call of a run that is cut in a way, after refused ones, with a hit array of at least 2 words
+// for each pattern.
 fn next_call(
     set: &[u32],
     automaton: &mut [u32],
     s: SearchState,
     text: &[i32],
     n: usize,
+    way: usize,
     seed: usize,
 ) -> calls::Step {
     let refused = refused::expect_all_refused(set, automaton, s, text, seed);
     let t = texts::next(seed);
-    let end = arrays::smaller(arrays::wide(s.taken) + texts::pick(t, 12), n);
-    let room = 2 * test_plain::pattern_count(set) + texts::pick(texts::next(t), 16);
+    let end = arrays::smaller(cuts::call_end(text, arrays::wide(s.taken), way, t), n);
+    let room = 2 * test_plain::pattern_count(set) + cuts::words_more(way, texts::next(t));
     let step = calls::make_step(set, automaton, s, text, end, room);
     let after = step.state;
     let d = step.difference;
@@ -32,13 +34,14 @@ fn next_call(
     }
 }
 
-// What differs first in a run over the first n values of a text, which is expected to go to their
-// end.
-fn expect_run(
+// What differs first in a run over the first n values of a text, cut into calls in a way, which is
+// expected to go to their end.
+pub(crate) fn expect_run(
     set: &[u32],
     automaton: &mut [u32],
     text: &[i32],
     n: usize,
+    way: usize,
     seed: usize,
 ) -> Difference {
     let mut s = SearchState::new();
@@ -49,7 +52,7 @@ fn expect_run(
             return difference::none();
         }
         t = texts::next(texts::next(t));
-        let step = next_call(set, automaton, s, text, n, t);
+        let step = next_call(set, automaton, s, text, n, way, t);
         let d = step.difference;
         if !difference::is_none(d) {
             return d;
@@ -73,7 +76,7 @@ fn random_in(
     let k = texts::pick(t, 4) + 1;
     let u = test_sets::make(set, text, kind, k, 9, t);
     finder::build_automaton(set, automaton);
-    expect_run(set, automaton, text, n, u)
+    expect_run(set, automaton, text, n, 0, u)
 }
 
 // A text of up to 120 values, and up to 5 patterns of up to 10.

@@ -1,5 +1,5 @@
-// The worked searches, those on which finders part, hit arrays of two words a pattern and one word
-// less, and a text of no values.
+// The worked searches, those on which finders part, texts with gaps, hit arrays of two words a
+// pattern and one word less, and a text of no values.
 use answers::Counts;
 use answers::SearchState;
 use answers::Streamed;
@@ -140,6 +140,40 @@ fn equal_fingerprints() -> Difference {
     finds(&[1, 3, 2], &[], &[2, 3, 1, 3, 2], &[4, 0], 7, 2)
 }
 
+// A window that holds a gap is no hit and no candidate, and a gap makes no attempt.
+fn gap_between() -> Difference {
+    finds(&[1, 2], &[], &[1, -2147483648, 2, 3], &[3, 0], 3, 1)
+}
+
+// A gap is not the lowest value: it closes all minima, and behind it nothing is open.
+fn gap_no_minimum() -> Difference {
+    finds(&[1, 2, 1], &[2, 1], &[1, 2, -2147483648, 1], &[], 3, 0)
+}
+
+// A gap before the last two values of a window, whose fingerprint is the pattern's.
+fn gap_before_fingerprint() -> Difference {
+    finds(
+        &[1, 2, 3, 4],
+        &[1, 2],
+        &[1, -2147483648, 2, 3, 4],
+        &[3, 1, 4, 1],
+        4,
+        2,
+    )
+}
+
+// A gap is no hit of a pattern of one value; the lowest sample is one.
+fn gaps_and_one_value() -> Difference {
+    finds(
+        &[5],
+        &[],
+        &[-2147483648, 3, -2147483648, -2147483648, -2147483647],
+        &[1, 0, 4, 0],
+        2,
+        2,
+    )
+}
+
 fn starred(t: Tally) -> Tally {
     let u = test_tally::named(t, b"first starred text", first_starred());
     test_tally::named(u, b"second starred text", second_starred())
@@ -151,6 +185,13 @@ fn parting(t: Tally) -> Tally {
     let c = test_tally::named(b, b"a shorter pattern too", shorter_too());
     let d = test_tally::named(c, b"a distance out of the window", cut_distance());
     test_tally::named(d, b"equal fingerprints", equal_fingerprints())
+}
+
+fn gaps(t: Tally) -> Tally {
+    let a = test_tally::named(t, b"a gap between", gap_between());
+    let b = test_tally::named(a, b"a gap is no minimum", gap_no_minimum());
+    let c = test_tally::named(b, b"a gap before a fingerprint", gap_before_fingerprint());
+    test_tally::named(c, b"gaps and a pattern of one value", gaps_and_one_value())
 }
 
 // A hit array of 6 words for 3 patterns is full behind the first hit, and takes no value more.
@@ -249,7 +290,7 @@ fn three(t: Tally) -> Tally {
 }
 
 pub(crate) fn all_cases(group: &[u8]) -> Tally {
-    let t = three(parting(starred(test_tally::none())));
+    let t = three(gaps(parting(starred(test_tally::none()))));
     test_tally::report(group, t);
     t
 }

@@ -1,6 +1,7 @@
 -- The entries: when each refuses, what it counts and what it writes.
 use Rattle.lists.specs.Prelude.{Bool, cond, not, _&&_, _||_, List, [], _∷_, _++_, flatten, ℕ, zero, suc, _+_, _*_, eqb, leb, ltb, ℤ, length, drop, begins}
 use Rattle.lists.specs.Prelude.{Option, none, some}
+use Rattle.gaps.specs.Gaps.{holdsGap}
 use Rattle.cartesian.specs.Cartesian.{distances}
 use Rattle.realization.specs.Realization.{realizable}
 use Rattle.catalogue.specs.Catalogue.{nextList}
@@ -50,7 +51,8 @@ after e array = unless (firstMet (e .conditions)) (e .result ++ drop (length (e 
 -- distances of values
 abbrev pub distancesEntry : List ℤ → List ℕ → Entry ℕ ℕ
 distancesEntry xs out =
-    let cs : Conditions = (1, eqb (length xs) 0) ∷ (2, ltb 256 (length xs)) ∷ (10, ltb (length out) (length xs)) ∷ [] in
+    let cs : Conditions = (1, eqb (length xs) 0) ∷ (2, ltb 256 (length xs)) ∷ (13, holdsGap xs)
+    ∷ (10, ltb (length out) (length xs)) ∷ [] in
     record { conditions = cs; counts = length xs; result = distances xs }
 
 -- a list of distances, of which something as long goes into an array of the given room
@@ -109,7 +111,7 @@ abbrev pub addEntry : List ℕ → List ℤ → Entry (ℕ × ℕ) ℕ
 addEntry ws xs =
     let ps = patternsOf ws in
     let n = length (flatten ps) + length xs in
-    let cs : Conditions = (1, eqb (length xs) 0) ∷ (2, ltb 256 (length xs)) ∷ (5, not (isSet ws))
+    let cs : Conditions = (1, eqb (length xs) 0) ∷ (2, ltb 256 (length xs)) ∷ (13, holdsGap xs) ∷ (5, not (isSet ws))
     ∷ (6, leb 64 (length ps) || ltb 4096 n) ∷ (10, ltb (length ws) (4 + length ps + n)) ∷ [] in
     record { conditions = cs; counts = (length ps + 1, n); result = setWords (ps ++ (distances xs ∷ [])) }
 

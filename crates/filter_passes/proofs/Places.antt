@@ -1,9 +1,9 @@
 -- THE PATTERNS OF A PLACE, BY RANK: the members of a set of ranks, in their order, are the patterns
 -- that pass its test in the order of the hits; so they are the place's hits, and as many as its
--- candidates. A place without candidates has no hit.
-use Rattle.lists.proofs.Prelude.{_≡_, _∙_, ap, sym, refl, subst, Bool, true, List, [], map, flatten, ℕ, suc, _+_, _/_, _≤_, _<_, ℤ, T, ltb, length, getD, take}
-use Rattle.lists.proofs.Prelude.{length-append, length-map, decLt, arith, lt-ltb, ltb-true, tabulate, select}
-use Rattle.lists.proofs.Tests.{and-split, and-join, T-true, true-T}
+-- candidates. A place without candidates has no hit, and a gap has no candidates.
+use Rattle.lists.proofs.Prelude.{_≡_, _∙_, ap, sym, refl, subst, Bool, true, false, _&&_, List, [], map, flatten, ℕ, suc, _+_, _/_, _≤_, _<_, ℤ, pos, T, ltb}
+use Rattle.lists.proofs.Prelude.{length, getD, take, length-append, length-map, decLt, arith, lt-leb, lt-ltb, le-ltb, ltb-true, tabulate, select}
+use Rattle.lists.proofs.Tests.{and-false, and-split, and-join, T-true, true-T}
 use Rattle.lists.proofs.Rows.{flatten-tabulate}
 use Rattle.lists.proofs.Members.{getD-mem, mem-getD, map-ext, map-map}
 use Rattle.lists.proofs.Select.{select-empty}
@@ -11,6 +11,7 @@ use Rattle.lists.proofs.Counting.{length-howMany, howMany-le, howMany-all}
 use Rattle.bit_sets.specs.BitSets.{bitAt, bits}
 use Rattle.bit_sets.proofs.Laws.{mem-bits}
 use Rattle.bit_sets.proofs.Digits.{bitAt-none}
+use Rattle.gaps.specs.Gaps.{isGap}
 use Rattle.pattern_set.specs.PatternSet.{PatternSet, goodSet}
 use Rattle.pattern_set.proofs.Good.{goodSet-parts}
 use Rattle.matching.specs.Matching.{lastHits, hitsAt, shortest, isCandidate, candidates}
@@ -21,6 +22,7 @@ use Rattle.filter_plan.proofs.Candidates.{candidates-order}
 use Rattle.filter_tables.specs.Tables.{ranked, Ranks}
 use Rattle.filter_tables.proofs.Lookup.{bits-ranks, ranks-order}
 use Rattle.filter_windows.specs.Looks.{SetOf}
+use Rattle.filter_windows.proofs.Samples.{since-gap, samples-fit}
 use Rattle.filter_passes.specs.Passes.{isMarked, HitsMarked, MarkedIf, candidatesBelow}
 
 -- ---- ranks
@@ -56,6 +58,20 @@ candidates-none ps text = refl
 pub candidates-all : (ps : PatternSet) (text : List ℤ) (n : ℕ) → n ≡ length text → candidatesBelow ps text n ≡ candidates ps text
 unfolding candidates
 candidates-all ps text n e = rw e refl
+
+-- at a gap no pattern is a candidate: no window fits there
+pub gap-candidates : (ps : PatternSet) (text : List ℤ) (p : ℕ) → T (goodSet ps) → p < length text → isGap (getD text p (pos 0)) ≡ true
+    → SetOf ps (isCandidate (shortest 17 ps) (take (suc p) text)) 0
+unfolding isCandidate
+gap-candidates ps text p g lt gap r h = bitAt-none r ∙ sym (go (decLt r (length ps)))
+  where
+    go : Dec (r < length ps) → (ltb r (length ps) && isCandidate (shortest 17 ps) (take (suc p) text) (ranked ps r)) ≡ false
+    go (yes l) =
+        let q = ranked ps r in
+        let inside = good-number ps (getD (hitOrder ps) r 0) g (hitOrder-lt ps r (omega (arith, length-hitOrder ps g))) in
+        let fit = samples-fit text p (suc p) 0 lt (since-gap text p (suc p) lt gap refl) (omega arith) q (inside .1) in
+        rw (fit, lt-leb (length q) 0 (omega (arith, inside .0))) (and-false (ltb r (length ps)))
+    go (no f) = rw (le-ltb r (length ps) (omega arith)) refl
 
 -- where there is no candidate, no pattern has a hit
 no-hit : (ps : PatternSet) (text : List ℤ) (r : ℕ) → T (goodSet ps) → SetOf ps (isCandidate (shortest 17 ps) text) 0 → r < length ps

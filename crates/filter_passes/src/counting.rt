@@ -4,7 +4,7 @@ ghost use Rattle.lists.specs.Prelude.{_≡_, suc, _+_, _≤_, _<_, length, take
 ghost use Rattle.pattern_set.specs.PatternSet.{patternsOf, IsSet};
 ghost use Rattle.matching.specs.Matching.{candidates};
 ghost use Rattle.filter_plan.specs.Plan.{textFingerprint};
-ghost use Rattle.filter_windows.specs.Looks.{SetTables, HitTables};
+ghost use Rattle.filter_windows.specs.Looks.{Since, SetTables, HitTables};
 ghost use Rattle.filter_passes.specs.Passes.{HitsMarked};
 use crate::marks::is_marked;
 use crate::marks::mark_if;
@@ -16,6 +16,7 @@ fn look_at(
     text: &[i32],
     p: usize,
     own: u32,
+    begin: usize,
     ownlow: &[u64; 256],
     ownhigh: &[u64; 256],
     fits: &[u64; 256],
@@ -26,6 +27,7 @@ fn look_at(
     requires { ⌜ IsSet (now set) ⌝ }
     requires { ⌜ (p < length (now text)) × (length (now text) ≤ 1048576) × (own ≡ textFingerprint 17 (take (suc p) (now text))) ⌝ }
     requires { ⌜ HitTables (patternsOf (now set)) (now ownlow) (now ownhigh) (now fits) (now numbers) (now parents) ⌝ }
+    requires { ⌜ Since (now text) (suc p) begin ⌝ }
     requires { ⌜ HitsMarked (patternsOf (now set)) (now text) (now marks) p × (length (now marks) ≡ 256) ⌝ }
     ensures { λ _. ⌜ HitsMarked (patternsOf (now (set .entry))) (now (text .entry)) (now (marks .exit)) (p + 1) × (length (now (marks .exit)) ≡ 256) ⌝ }
 {
@@ -35,6 +37,7 @@ fn look_at(
             text,
             p,
             own,
+            begin,
             ownlow,
             ownhigh,
             fits,
@@ -45,9 +48,11 @@ fn look_at(
     }
 }
 
-// The candidates of the text. Both fingerprints are rolled at each place: that of the last b
-// values, and own, that of the last 17. A pattern with a hit is a candidate, so a place whose set
-// fingerprint no pattern has is passed by.
+// The candidates of the text. Two fingerprints are those of place p: that of the last b values, and
+// own, that of the last 17. Of the first value alone they are 0; at the end of a turn both are
+// rolled on to the next place, where there is one. begin is kept, where the samples behind the last
+// gap begin. At a gap no window fits, so nothing is looked up. A pattern with a hit is a candidate,
+// so a place whose set fingerprint no pattern has is passed by.
 fn count_candidates(
     set: &[u32],
     text: &[i32],
@@ -72,30 +77,39 @@ fn count_candidates(
     let n = text.len();
     let mut fingerprint = 0;
     let mut own = 0;
+    let mut begin = 0;
     let mut count = 0;
     let mut p = 0;
     while p < n {
+        if gaps::is_gap(text, p) {
+            begin = p + 1;
+        } else {
+            let alike = filter_windows::by_set_fingerprint(setlow, sethigh, fingerprint);
+            if alike != 0 {
+                let here = filter_windows::fitting(alike, fits, p + 1 - begin);
+                count += bit_sets::size(here);
+                look_at(
+                    set,
+                    text,
+                    p,
+                    own,
+                    begin,
+                    ownlow,
+                    ownhigh,
+                    fits,
+                    numbers,
+                    parents,
+                    marks,
+                );
+            }
+        }
+        p += 1;
+        if n <= p {
+            break;
+        }
         let bit = filter_windows::new_bit(text, p);
         fingerprint = filter_windows::roll(fingerprint, bit, b);
         own = filter_windows::roll(own, bit, 17);
-        let alike = filter_windows::by_set_fingerprint(setlow, sethigh, fingerprint);
-        if alike != 0 {
-            let here = filter_windows::fitting(alike, fits, p);
-            count += bit_sets::size(here);
-            look_at(
-                set,
-                text,
-                p,
-                own,
-                ownlow,
-                ownhigh,
-                fits,
-                numbers,
-                parents,
-                marks,
-            );
-        }
-        p += 1;
     }
     count
 }

@@ -4,7 +4,7 @@ ghost use Rattle.lists.specs.Prelude.{_≡_, min, _+_, _-_, _*_, _≤_, _<_, le
 ghost use Rattle.bit_sets.specs.BitSets.{bits};
 ghost use Rattle.pattern_set.specs.PatternSet.{patternsOf, IsSet};
 ghost use Rattle.matching.specs.Matching.{hits, hitWords};
-ghost use Rattle.filter_windows.specs.Looks.{HitTables};
+ghost use Rattle.filter_windows.specs.Looks.{Since, HitTables};
 ghost use Rattle.filter_passes.specs.Passes.{HitsMarked, hitsFrom, rankWords};
 use crate::marks::is_marked;
 
@@ -16,33 +16,45 @@ fn block_end(first: usize, n: usize) -> usize
     if first + 64 < n { first + 64 } else { n }
 }
 
-// How many hits the places from first to end have.
+// How many hits a block has, and where the samples behind the last gap up to its end begin.
+struct Counted {
+    hits: usize,
+    begin: usize,
+}
+
+// How many hits the places from first to end have; begin is where the samples behind the last gap
+// before first begin.
 fn count_block(
     set: &[u32],
     text: &[i32],
     first: usize,
     end: usize,
+    begin: usize,
     ownlow: &[u64; 256],
     ownhigh: &[u64; 256],
     fits: &[u64; 256],
     numbers: &[u32; 64],
     parents: &[u32],
-) -> usize
+) -> Counted
     requires { ⌜ IsSet (now set) ⌝ }
-    requires { ⌜ (first ≤ end) × (end ≤ length (now text)) × (length (now text) ≤ 1048576) ⌝ }
+    requires { ⌜ (first ≤ end) × (end ≤ length (now text)) × (length (now text) ≤ 1048576) × Since (now text) first begin ⌝ }
     requires { ⌜ HitTables (patternsOf (now set)) (now ownlow) (now ownhigh) (now fits) (now numbers) (now parents) ⌝ }
-    ensures { λ r. ⌜ r ≡ length (hitsFrom (patternsOf (now (set .entry))) (now (text .entry)) first (end - first)) ⌝ }
+    ensures { λ r. ⌜ r .hits ≡ length (hitsFrom (patternsOf (now (set .entry))) (now (text .entry)) first (end - first)) ⌝ }
+    ensures { λ r. ⌜ Since (now (text .entry)) end (r .begin) ⌝ }
 {
     let mut own = filter_windows::fingerprint_before(text, first);
+    let mut since = begin;
     let mut count = 0;
     let mut p = first;
     while p < end {
         own = filter_windows::own_next(text, p, own);
+        since = filter_windows::begin_next(text, p, since);
         let found = filter_windows::hits_at(
             set,
             text,
             p,
             own,
+            since,
             ownlow,
             ownhigh,
             fits,
@@ -52,10 +64,14 @@ fn count_block(
         count += bit_sets::size(found);
         p += 1;
     }
-    count
+    Counted {
+        hits: count,
+        begin: since,
+    }
 }
 
-// How many hits the text has.
+// How many hits the text has. Where the samples behind the last gap begin is kept for the place
+// done, the one behind the last block that was looked at.
 pub fn count_hits(
     set: &[u32],
     text: &[i32],
@@ -74,21 +90,28 @@ pub fn count_hits(
 {
     let n = text.len();
     let mut count = 0;
+    let mut begin = 0;
+    let mut done = 0;
     let mut first = 0;
     let mut block = 0;
     while first < n {
         if is_marked(marks, block) {
-            count += count_block(
+            let end = block_end(first, n);
+            let counted = count_block(
                 set,
                 text,
                 first,
-                block_end(first, n),
+                end,
+                filter_windows::begin_before(text, done, begin, first),
                 ownlow,
                 ownhigh,
                 fits,
                 numbers,
                 parents,
             );
+            count += counted.hits;
+            begin = counted.begin;
+            done = end;
         }
         first += 64;
         block += 1;
@@ -120,12 +143,21 @@ pub(crate) fn write_place(
     to
 }
 
+// The word behind the hits of a block, and where the samples behind the last gap up to its end
+// begin.
+struct Listed {
+    to: usize,
+    begin: usize,
+}
+
 // Writes the hits of the places from first to end, from the word at on; tells the word behind them.
+// begin is where the samples behind the last gap before first begin.
 fn write_block(
     set: &[u32],
     text: &[i32],
     first: usize,
     end: usize,
+    begin: usize,
     ownlow: &[u64; 256],
     ownhigh: &[u64; 256],
     fits: &[u64; 256],
@@ -133,25 +165,29 @@ fn write_block(
     parents: &[u32],
     out: &mut [u32],
     at: usize,
-) -> usize
+) -> Listed
     requires { ⌜ IsSet (now set) ⌝ }
-    requires { ⌜ (first ≤ end) × (end ≤ length (now text)) × (length (now text) ≤ 1048576) ⌝ }
+    requires { ⌜ (first ≤ end) × (end ≤ length (now text)) × (length (now text) ≤ 1048576) × Since (now text) first begin ⌝ }
     requires { ⌜ HitTables (patternsOf (now set)) (now ownlow) (now ownhigh) (now fits) (now numbers) (now parents) ⌝ }
     requires { ⌜ at + 2 * length (hitsFrom (patternsOf (now set)) (now text) first (end - first)) ≤ length (now out) ⌝ }
-    ensures { λ r. ⌜ r ≡ at + 2 * length (hitsFrom (patternsOf (now (set .entry))) (now (text .entry)) first (end - first)) ⌝ }
+    ensures { λ r. ⌜ r .to ≡ at + 2 * length (hitsFrom (patternsOf (now (set .entry))) (now (text .entry)) first (end - first)) ⌝ }
     ensures { λ _. ⌜ now (out .exit) ≡ sets (now (out .entry)) at
         (hitWords (hitsFrom (patternsOf (now (set .entry))) (now (text .entry)) first (end - first))) ⌝ }
+    ensures { λ r. ⌜ Since (now (text .entry)) end (r .begin) ⌝ }
 {
     let mut own = filter_windows::fingerprint_before(text, first);
+    let mut since = begin;
     let mut to = at;
     let mut p = first;
     while p < end {
         own = filter_windows::own_next(text, p, own);
+        since = filter_windows::begin_next(text, p, since);
         let found = filter_windows::hits_at(
             set,
             text,
             p,
             own,
+            since,
             ownlow,
             ownhigh,
             fits,
@@ -161,11 +197,12 @@ fn write_block(
         to = write_place(numbers, found, p, out, to);
         p += 1;
     }
-    to
+    Listed { to, begin: since }
 }
 
 // Writes the hits of the text to the front of the array, which is long enough; tells how many words
-// they are.
+// they are. Where the samples behind the last gap begin is kept for the place done, the one behind
+// the last block that was looked at.
 pub fn write_hits(
     set: &[u32],
     text: &[i32],
@@ -187,15 +224,19 @@ pub fn write_hits(
 {
     let n = text.len();
     let mut to = 0;
+    let mut begin = 0;
+    let mut done = 0;
     let mut first = 0;
     let mut block = 0;
     while first < n {
         if is_marked(marks, block) {
-            to = write_block(
+            let end = block_end(first, n);
+            let listed = write_block(
                 set,
                 text,
                 first,
-                block_end(first, n),
+                end,
+                filter_windows::begin_before(text, done, begin, first),
                 ownlow,
                 ownhigh,
                 fits,
@@ -204,6 +245,9 @@ pub fn write_hits(
                 out,
                 to,
             );
+            to = listed.to;
+            begin = listed.begin;
+            done = end;
         }
         first += 64;
         block += 1;

@@ -13,8 +13,11 @@ pub struct Counts {
     pub candidates: usize,
 }
 
-// Counts the candidates of the text and writes its hits, for which there is room. Both fingerprints
-// are rolled at each place: that of the last b values, and own, that of the last 17.
+// Counts the candidates of the text and writes its hits, for which there is room. Two fingerprints
+// are those of place p: that of the last b values, and own, that of the last 17. Of the first value
+// alone they are 0; at the end of a turn both are rolled on to the next place, where there is one.
+// begin is kept, where the samples behind the last gap begin. At a gap no window fits, so nothing
+// is looked up.
 fn search_places(
     set: &[u32],
     text: &[i32],
@@ -39,31 +42,40 @@ fn search_places(
     let n = text.len();
     let mut fingerprint = 0;
     let mut own = 0;
+    let mut begin = 0;
     let mut count = 0;
     let mut to = 0;
     let mut p = 0;
     while p < n {
+        if gaps::is_gap(text, p) {
+            begin = p + 1;
+        } else {
+            let alike = filter_windows::by_set_fingerprint(setlow, sethigh, fingerprint);
+            if alike != 0 {
+                let here = filter_windows::fitting(alike, fits, p + 1 - begin);
+                count += bit_sets::size(here);
+                let found = filter_windows::hits_at(
+                    set,
+                    text,
+                    p,
+                    own,
+                    begin,
+                    ownlow,
+                    ownhigh,
+                    fits,
+                    numbers,
+                    parents,
+                );
+                to = write_place(numbers, found, p, out, to);
+            }
+        }
+        p += 1;
+        if n <= p {
+            break;
+        }
         let bit = filter_windows::new_bit(text, p);
         fingerprint = filter_windows::roll(fingerprint, bit, b);
         own = filter_windows::roll(own, bit, 17);
-        let alike = filter_windows::by_set_fingerprint(setlow, sethigh, fingerprint);
-        if alike != 0 {
-            let here = filter_windows::fitting(alike, fits, p);
-            count += bit_sets::size(here);
-            let found = filter_windows::hits_at(
-                set,
-                text,
-                p,
-                own,
-                ownlow,
-                ownhigh,
-                fits,
-                numbers,
-                parents,
-            );
-            to = write_place(numbers, found, p, out, to);
-        }
-        p += 1;
     }
     Counts {
         hits: to / 2,

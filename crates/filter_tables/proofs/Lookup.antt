@@ -1,6 +1,6 @@
 -- WHAT THE TABLES TELL at the end of a text: the sets at the bytes of a fingerprint have in common
--- the patterns that have the whole fingerprint, so with the set at the last place they have the
--- candidates there, and the own tables the likely patterns.
+-- the patterns that have the whole fingerprint, so with the set of those whose windows fit they
+-- have the candidates there, and the own tables the likely patterns.
 use Rattle.lists.proofs.Prelude.{_≡_, _∙_, ap, sym, refl, ap₂, Bool, true, false, _&&_, List, [], _∷_, map, append-nil, List·Memᴰ, ℕ, zero, suc, min, _+_, _-_}
 use Rattle.lists.proofs.Prelude.{_/_, _%_, _^_, _≤_, _<_, ℤ, T, eqb, leb, ltb, eqb→eq, ltb→lt, length, getD, pow-mono, field, mod-lt, mod-eq-of-lt, min-le-left}
 use Rattle.lists.proofs.Prelude.{lt-of-lt-of-le, le-min, decLt, arith, eq-eqb, le-leb, lt-leb, lt-ltb, le-ltb, tabulate, select}
@@ -13,7 +13,7 @@ use Rattle.lists.proofs.Powers.{mod-pow-pow}
 use Rattle.bit_sets.specs.BitSets.{bitAt, bits}
 use Rattle.bit_sets.proofs.Laws.{bits-by}
 use Rattle.pattern_set.specs.PatternSet.{PatternSet, goodSet}
-use Rattle.matching.specs.Matching.{shortest, isCandidate}
+use Rattle.matching.specs.Matching.{shortest, fits, isCandidate}
 use Rattle.filter_plan.specs.Plan.{hitOrder, textFingerprint, patternFingerprint, ownLength, isLikely}
 use Rattle.filter_plan.proofs.Fingerprints.{textFingerprint-bytes, textFingerprint-part}
 use Rattle.filter_plan.proofs.HitOrder.{hitOrder-lt, length-hitOrder}
@@ -83,33 +83,40 @@ own-tests text p h =
     ∙ bytes-eq q t
     ∙ eqb-comm q t
 
--- the last place of a text of n values, or 255 where that is smaller
+-- the last place of n samples, or 255 where that is smaller
 abbrev pub lastPlace : ℕ → ℕ
-lastPlace n = min (n - 1) 255
+lastPlace n = min 255 (n - 1)
 
-pub fits-test : (n : ℕ) (p : List ℕ) → 1 ≤ n → length p ≤ 256 → fitsAt (lastPlace n) p ≡ leb (length p) n
-fits-test n p h k = go (decLt n (length p))
+-- a pattern's window lies within n samples
+pub fits-test : (n : ℕ) (p : List ℕ) → 1 ≤ length p → length p ≤ 256 → (ltb 0 n && fitsAt (lastPlace n) p) ≡ leb (length p) n
+fits-test zero p h k = sym (lt-leb (length p) 0 h)
+fits-test (suc n) p h k = rw (lt-ltb 0 (suc n) (omega arith)) (go (decLt (suc n) (length p)))
   where
-    go : Dec (n < length p) → leb (length p) (suc (min (n - 1) 255)) ≡ leb (length p) n
-    go (yes l) = lt-leb (length p) (suc (min (n - 1) 255)) (omega arith) ∙ sym (lt-leb (length p) n l)
-    go (no f) = le-leb (length p) (suc (min (n - 1) 255)) (omega arith) ∙ sym (le-leb (length p) n (omega arith))
+    go : Dec (suc n < length p) → fitsAt (lastPlace (suc n)) p ≡ leb (length p) (suc n)
+    go (yes l) = lt-leb (length p) (suc (lastPlace (suc n))) (omega arith) ∙ sym (lt-leb (length p) (suc n) l)
+    go (no f) = le-leb (length p) (suc (lastPlace (suc n))) (omega arith) ∙ sym (le-leb (length p) (suc n) (omega arith))
 
 -- ---- all patterns
 
 -- a bit of three sets that have only ranks below k, where the tests of rank r come to one
-common-bit : (c x y z t : Bool) → (T c → ((x && y) && z) ≡ t) → (((c && x) && (c && y)) && (c && z)) ≡ (c && t)
-common-bit true x y z t f = f tt
-common-bit false x y z t f = refl
+common-bit : (c x y e z t : Bool) → (T c → ((x && y) && (e && z)) ≡ t) → (((c && x) && (c && y)) && (e && (c && z))) ≡ (c && t)
+common-bit true x y e z t f = f tt
+common-bit false x y e z t f = refl
 
-module _ (ps : PatternSet) (text : List ℤ) (good : T (goodSet ps)) (some : 1 ≤ length text) where
+-- where a window at the end of the text fits exactly if it lies within the last n values
+module _ (ps : PatternSet) (text : List ℤ) (good : T (goodSet ps)) (n : ℕ) (samples : (p : List ℕ) → length p ≤ 256 → fits text p ≡ leb (length p) n) where
   -- the pattern of a rank is one of the set
   ranked-mem : (r : ℕ) → T (ltb r (length ps)) → List·Memᴰ (ranked ps r) ps
   ranked-mem r t =
       let h = ltb→lt r (length ps) t in
       getD-mem ps (getD (hitOrder ps) r 0) [] (hitOrder-lt ps r (omega (arith, length-hitOrder ps good)))
 
-  place-lt : lastPlace (length text) < 256
+  place-lt : lastPlace n < 256
   place-lt = omega arith
+
+  -- the test of the table by last places
+  fits-is : (p : List ℕ) → 1 ≤ length p → length p ≤ 256 → (ltb 0 n && fitsAt (lastPlace n) p) ≡ fits text p
+  fits-is p h k = fits-test n p h k ∙ sym (samples p k)
 
   -- the fingerprint of 17 values has two bytes
   pub own-fingerprint-bytes : (textFingerprint 17 text % 256 < 256) × (textFingerprint 17 text / 256 < 256)
@@ -125,37 +132,38 @@ module _ (ps : PatternSet) (text : List ℤ) (good : T (goodSet ps)) (some : 1 �
 
     -- CANDIDATES: what the sets at the bytes of the set fingerprint and at the last place have in
     -- common
-    pub candidate-bit : (lowbyte highbyte fits : List ℕ) → TableOf ps (setLow b) lowbyte → TableOf ps (setHigh b) highbyte → TableOf ps fitsAt fits
+    pub candidate-bit : (lowbyte highbyte table : List ℕ) → TableOf ps (setLow b) lowbyte → TableOf ps (setHigh b) highbyte → TableOf ps fitsAt table
         → (r : ℕ) → r < 64
-        → ((bitAt (getD lowbyte (textFingerprint b text % 256) 0) r && bitAt (getD highbyte (textFingerprint b text / 256) 0) r) && bitAt
-        (getD fits (lastPlace (length text)) 0) r) ≡ (ltb r (length ps) && isCandidate b text (ranked ps r))
+        → ((bitAt (getD lowbyte (textFingerprint b text % 256) 0) r && bitAt (getD highbyte (textFingerprint b text / 256) 0) r) && (ltb 0 n && bitAt
+        (getD table (lastPlace n) 0) r)) ≡ (ltb r (length ps) && isCandidate b text (ranked ps r))
     unfolding isCandidate
-    candidate-bit lowbyte highbyte fits l h f r k =
+    candidate-bit lowbyte highbyte table l h f r k =
         let fingerprint = textFingerprint b text in
         let p = ranked ps r in
         ap₂ _&&_ (ap₂ _&&_ (l (fingerprint % 256) (set-fingerprint-bytes .0) r k) (h (fingerprint / 256) (set-fingerprint-bytes .1) r k))
-        (f (lastPlace (length text)) place-lt r k)
-        ∙ common-bit (ltb r (length ps)) (setLow b (fingerprint % 256) p) (setHigh b (fingerprint / 256) p) (fitsAt (lastPlace (length text)) p)
+        (ap (λ (z : Bool). ltb 0 n && z) (f (lastPlace n) place-lt r k))
+        ∙ common-bit (ltb r (length ps)) (setLow b (fingerprint % 256) p) (setHigh b (fingerprint / 256) p) (ltb 0 n) (fitsAt (lastPlace n) p)
         (isCandidate b text p)
-        (λ t. ap₂ _&&_ (set-tests b fingerprint p) (fits-test (length text) p some (good-pattern ps p good (ranked-mem r t) .1))
-        ∙ and-comm (eqb fingerprint (patternFingerprint b p)) (leb (length p) (length text)))
+        (λ t. let inside = good-pattern ps p good (ranked-mem r t) in
+        ap₂ _&&_ (set-tests b fingerprint p) (fits-is p (inside .0) (inside .1))
+        ∙ and-comm (eqb fingerprint (patternFingerprint b p)) (fits text p))
 
   -- LIKELY PATTERNS: what the own tables at the bytes of the fingerprint of 17 values and the set
   -- at the last place have in common
-  pub own-bit : (lowbyte highbyte fits : List ℕ) → TableOf ps ownLow lowbyte → TableOf ps ownHigh highbyte → TableOf ps fitsAt fits → (r : ℕ) → r < 64
-      → ((bitAt (getD lowbyte (textFingerprint 17 text % 256) 0) r && bitAt (getD highbyte (textFingerprint 17 text / 256) 0) r) && bitAt
-      (getD fits (lastPlace (length text)) 0) r) ≡ (ltb r (length ps) && isLikely text (ranked ps r))
+  pub own-bit : (lowbyte highbyte table : List ℕ) → TableOf ps ownLow lowbyte → TableOf ps ownHigh highbyte → TableOf ps fitsAt table → (r : ℕ) → r < 64
+      → ((bitAt (getD lowbyte (textFingerprint 17 text % 256) 0) r && bitAt (getD highbyte (textFingerprint 17 text / 256) 0) r) && (ltb 0 n && bitAt
+      (getD table (lastPlace n) 0) r)) ≡ (ltb r (length ps) && isLikely text (ranked ps r))
   unfolding isLikely
-  own-bit lowbyte highbyte fits l h f r k =
+  own-bit lowbyte highbyte table l h f r k =
       let p = ranked ps r in
       ap₂ _&&_
       (ap₂ _&&_ (l (textFingerprint 17 text % 256) (own-fingerprint-bytes .0) r k) (h (textFingerprint 17 text / 256) (own-fingerprint-bytes .1) r k))
-      (f (lastPlace (length text)) place-lt r k)
-      ∙ common-bit (ltb r (length ps)) (ownLow (textFingerprint 17 text % 256) p) (ownHigh (textFingerprint 17 text / 256) p)
-      (fitsAt (lastPlace (length text)) p) (isLikely text p)
+      (ap (λ (z : Bool). ltb 0 n && z) (f (lastPlace n) place-lt r k))
+      ∙ common-bit (ltb r (length ps)) (ownLow (textFingerprint 17 text % 256) p) (ownHigh (textFingerprint 17 text / 256) p) (ltb 0 n)
+      (fitsAt (lastPlace n) p) (isLikely text p)
       (λ t. let inside = good-pattern ps p good (ranked-mem r t) in
-      ap₂ _&&_ (own-tests text p (inside .0)) (fits-test (length text) p some (inside .1))
-      ∙ and-comm (eqb (textFingerprint (ownLength p) text) (patternFingerprint (ownLength p) p)) (leb (length p) (length text)))
+      ap₂ _&&_ (own-tests text p (inside .0)) (fits-is p (inside .0) (inside .1))
+      ∙ and-comm (eqb (textFingerprint (ownLength p) text) (patternFingerprint (ownLength p) p)) (fits text p))
 
 -- ---- as lists of ranks
 

@@ -1,5 +1,6 @@
 -- The root of the crate's laws.
 pub mod Rolling
+pub mod Samples
 pub mod Lookups
 pub mod RankSets
 pub mod Windows

@@ -1,17 +1,18 @@
 -- SETS OF PATTERNS BY RANK: taking the lowest rank out of a set, and checking the likely patterns
 -- one by one.
 use Rattle.lists.proofs.Prelude.{_≡_, _∙_, ap, sym, refl, subst, ap₂, inl, inr, _⊎_, Bool, true, false, not, _&&_, _||_, List, _∷_, List·Memᴰ, List·Memᴰ·head}
-use Rattle.lists.proofs.Prelude.{List·Memᴰ·tail, List·Memᴰ·cases-cons, ℕ, _≤_, _<_, ℤ, T, eqb, leb, ltb, leb→le, length, getD, drop, arith, eq-eqb, ne-eqb}
-use Rattle.lists.proofs.Prelude.{eqb-true, ltb-true, tabulate}
+use Rattle.lists.proofs.Prelude.{List·Memᴰ·tail, List·Memᴰ·cases-cons, ℕ, _≤_, _<_, ℤ, T, eqb, ltb, length, getD, drop, arith, eq-eqb, ne-eqb}
+use Rattle.lists.proofs.Prelude.{eqb-true, ltb-true, tabulate, lastOf}
 use Rattle.lists.proofs.Tests.{and-split, and-join, test-ext, and-false, and-true, T-true, true-T, or-false}
 use Rattle.lists.proofs.Rising.{Rising, rising-select, rising-below}
+use Rattle.gaps.specs.Gaps.{holdsGap}
 use Rattle.bit_sets.specs.BitSets.{bitAt, bits}
 use Rattle.bit_sets.proofs.Laws.{mem-bits}
 use Rattle.bit_sets.proofs.Digits.{bitAt-none}
 use Rattle.pattern_set.specs.PatternSet.{PatternSet, goodSet}
-use Rattle.filter_plan.specs.Plan.{hitOrder, textFingerprint, patternFingerprint, ownLength, isLikely, isHit}
+use Rattle.filter_plan.specs.Plan.{hitOrder, isLikely, isHit}
 use Rattle.filter_plan.proofs.HitOrder.{good-number, hitOrder-lt, length-hitOrder}
-use Rattle.filter_plan.proofs.Checks.{hit-likely}
+use Rattle.filter_plan.proofs.Checks.{hit-likely, likely-fits}
 use Rattle.filter_tables.specs.Tables.{ranked}
 use Rattle.filter_windows.specs.Looks.{SetOf}
 
@@ -108,16 +109,13 @@ found-all ps text likely found g l f r h =
     go false ea b eb c ec = refl
 
 -- a pattern that is likely at the end of a text is one of the set, and its window lies within the
--- text
+-- text and holds no gap
 pub likely-rank : (ps : PatternSet) (text : List ℤ) (likely r : ℕ) → T (goodSet ps) → SetOf ps (isLikely text) likely → r < 64 → T (bitAt likely r)
-    → (r < length ps) × (getD (hitOrder ps) r 0 < length ps) × (length (ranked ps r) ≤ length text)
-unfolding isLikely
+    → (r < length ps) × (getD (hitOrder ps) r 0 < length ps)
+    × (length (ranked ps r) ≤ length text) × (holdsGap (lastOf (length (ranked ps r)) text) ≡ false)
 likely-rank ps text likely r g l h t =
     let p = ranked ps r in
     let s = and-split (ltb r (length ps)) (isLikely text p) (subst T (l r h) t) in
-    let k : r < length ps = ltb-true r (length ps) (true-T (ltb r (length ps)) (s .0)) in (
-      k,
-      hitOrder-lt ps r (omega (arith, length-hitOrder ps g)),
-      leb→le (length p) (length text)
-          (and-split (leb (length p) (length text)) (eqb (textFingerprint (ownLength p) text) (patternFingerprint (ownLength p) p)) (s .1) .0),
-    )
+    let k : r < length ps = ltb-true r (length ps) (true-T (ltb r (length ps)) (s .0)) in
+    let fits = likely-fits text p (s .1) in
+    (k, hitOrder-lt ps r (omega (arith, length-hitOrder ps g)), fits .0, fits .1)

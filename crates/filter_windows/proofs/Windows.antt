@@ -1,8 +1,10 @@
--- THE CHECK OF A WINDOW: the part of the text that ends at a place and is as long as the pattern
--- passes the comparisons with the pattern's global parents exactly if the pattern has a hit there.
-use Rattle.lists.proofs.Prelude.{_≡_, _∙_, ap, sym, subst, ap₂, Bool, _&&_, List, [], _∷_, _++_, flatten, ℕ, suc, min, _+_, _-_, _≤_, _<_, ℤ, T, length, getD}
-use Rattle.lists.proofs.Prelude.{take, drop, length-take, length-drop, length-take-le, take-all, take-add, drop-append-seam, arith, le-leb, lastOf}
+-- THE CHECK OF A WINDOW: the part of the text that ends at a place, is as long as the pattern and
+-- holds no gap passes the comparisons with the pattern's global parents exactly if the pattern has
+-- a hit there.
+use Rattle.lists.proofs.Prelude.{_≡_, _∙_, ap, sym, subst, ap₂, Bool, false, _&&_, List, [], _∷_, _++_, flatten, ℕ, suc, min, _+_, _-_, _≤_, _<_, ℤ, T, length}
+use Rattle.lists.proofs.Prelude.{getD, take, drop, length-take, length-drop, length-take-le, take-all, take-add, drop-append-seam, arith, le-leb, lastOf}
 use Rattle.lists.proofs.Rows.{length-flatten-suc}
+use Rattle.gaps.specs.Gaps.{holdsGap}
 use Rattle.realization.specs.Realization.{realizable}
 use Rattle.global_parents.specs.GlobalParents.{globalParents}
 use Rattle.pattern_set.specs.PatternSet.{PatternSet, goodSet}
@@ -65,17 +67,18 @@ module _ (ps : PatternSet) (parents : List ℕ) (holds : Parents ps parents) (j 
       rw parents-are (globalParents-places (getD ps j [])),
     )
 
-    pub check-is : T (realizable (getD ps j [])) → passesParents (take n (drop a parents)) (take m (drop b text)) ≡ isHit (take (suc p) text) (getD ps j [])
+    pub check-is : T (realizable (getD ps j [])) → holdsGap (lastOf (length (getD ps j [])) (take (suc p) text)) ≡ false
+        → passesParents (take n (drop a parents)) (take m (drop b text)) ≡ isHit (take (suc p) text) (getD ps j [])
     unfolding isHit
-    check-is r =
+    check-is r whole =
         let d = getD ps j [] in
         let t = take (suc p) text in
         let len : length t ≡ suc p = length-take-le (suc p) text lt in
+        let w : take m (drop b text) ≡ lastOf (length d) t = ap₂ (λ (x y : ℕ). take x (drop y text)) em eb ∙ window-is text (length d) p le lt in
         ap (λ (v : List ℕ). passesParents v (take m (drop b text))) parents-are
         ∙ passesParents-passes d (take m (drop b text))
-        ∙ passes-hit d (take m (drop b text)) r window-length
-        ∙ ap₂ (λ (x y : ℕ). hasTree (take x (drop y text)) d) em eb
-        ∙ ap (λ (v : List ℤ). hasTree v d) (window-is text (length d) p le lt)
+        ∙ passes-hit d (take m (drop b text)) r (ap holdsGap w ∙ whole) window-length
+        ∙ ap (λ (v : List ℤ). hasTree v d) w
         ∙ sym (ap (λ (v : Bool). v && hasTree (lastOf (length d) t) d) (le-leb (length d) (length t) (omega arith)))
 
 -- ---- the array of the parents

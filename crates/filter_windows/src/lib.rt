@@ -1,10 +1,11 @@
-// A look at the patterns of a place of a text: by its fingerprint first, then by the global parents
-// of the windows that are left.
-ghost use Rattle.lists.specs.Prelude.{_≡_, [], suc, min, _+_, _-_, _*_, _/_, _%_, _^_, _≤_, _<_, pos, leZ, length, getD, take};
+// A look at the patterns of a place of a text: by its fingerprint and by the samples behind the
+// last gap first, then by the global parents of the windows that are left.
+ghost use Rattle.lists.specs.Prelude.{_≡_, false, [], suc, min, _+_, _-_, _*_, _/_, _%_, _^_, _≤_, _<_, pos, leZ, length, getD, take, lastOf};
+ghost use Rattle.gaps.specs.Gaps.{holdsGap};
 ghost use Rattle.pattern_set.specs.PatternSet.{patternsOf, IsSet};
 ghost use Rattle.filter_plan.specs.Plan.{textFingerprint, isLikely, isHit};
 ghost use Rattle.filter_tables.specs.Tables.{Parents};
-ghost use Rattle.filter_windows.specs.Looks.{newBit, Alike, Fitting, Looked, SetOf, CheckTables, HitTables};
+ghost use Rattle.filter_windows.specs.Looks.{newBit, Since, Alike, Fitting, Looked, SetOf, CheckTables, HitTables};
 
 // ---- fingerprints
 
@@ -69,6 +70,36 @@ pub fn fingerprint_before(text: &[i32], end: usize) -> u32
     fingerprint
 }
 
+// ---- samples behind the last gap
+
+// Where the samples behind the last gap up to place p begin; begin is where those before p begin.
+pub fn begin_next(text: &[i32], p: usize, begin: usize) -> usize
+    requires { ⌜ (p < length (now text)) × Since (now text) p begin ⌝ }
+    ensures { λ r. ⌜ Since (now (text .entry)) (suc p) r ⌝ }
+{
+    if gaps::is_gap(text, p) { p + 1 } else { begin }
+}
+
+// Where the samples behind the last gap before the place first begin; begin is where those before
+// the place done begin. The values between the two places are looked at from the last one back, at
+// most 256 of them: no window is longer.
+pub fn begin_before(text: &[i32], done: usize, begin: usize, first: usize) -> usize
+    requires { ⌜ (done ≤ first) × (first ≤ length (now text)) × Since (now text) done begin ⌝ }
+    ensures { λ r. ⌜ Since (now (text .entry)) first r ⌝ }
+{
+    let mut p = first;
+    while done < p {
+        if first - p == 256 {
+            return p;
+        }
+        if gaps::is_gap(text, p - 1) {
+            return p;
+        }
+        p -= 1;
+    }
+    begin
+}
+
 // ---- looks into the tables
 
 // The entry of the table by last places for p: all windows fit at place 255 and after it.
@@ -95,41 +126,46 @@ pub fn by_set_fingerprint(setlow: &[u64; 256], sethigh: &[u64; 256], fingerprint
     by_fingerprint(setlow, sethigh, fingerprint)
 }
 
-// Of a set of patterns those whose window with the last place p lies within the text.
-pub fn fitting(set: u64, fits: &[u64; 256], p: usize) -> u64
-    ensures { λ s. ⌜ Fitting (now (fits .entry)) p set s ⌝ }
+// Of a set of patterns those whose window lies within the last n values.
+pub fn fitting(set: u64, fits: &[u64; 256], n: usize) -> u64
+    ensures { λ s. ⌜ Fitting (now (fits .entry)) n set s ⌝ }
 {
-    let last = capped(p);
-    bit_sets::common(set, fits[last])
+    if n == 0 {
+        0
+    } else {
+        let last = capped(n - 1);
+        bit_sets::common(set, fits[last])
+    }
 }
 
-// The patterns that the tables have for a fingerprint and for the last place p. Where no pattern
-// has the fingerprint, the place is not asked for.
+// The patterns that the tables have for a fingerprint and for n samples. Where no pattern has the
+// fingerprint, the samples are not asked for.
 fn look(
     lowbyte: &[u64; 256],
     highbyte: &[u64; 256],
     fits: &[u64; 256],
     fingerprint: u32,
-    p: usize,
+    n: usize,
 ) -> u64
     requires { ⌜ fingerprint < 65536 ⌝ }
-    ensures { λ s. ⌜ Looked (now (lowbyte .entry)) (now (highbyte .entry)) (now (fits .entry)) fingerprint p s ⌝ }
+    ensures { λ s. ⌜ Looked (now (lowbyte .entry)) (now (highbyte .entry)) (now (fits .entry)) fingerprint n s ⌝ }
 {
     let alike = by_fingerprint(lowbyte, highbyte, fingerprint);
     if alike == 0 {
         0
     } else {
-        fitting(alike, fits, p)
+        fitting(alike, fits, n)
     }
 }
 
 // ---- windows
 
-// Whether pattern j, whose window lies within the text, has a hit at the last place p: its window
-// is checked by its global parents.
+// Whether pattern j, whose window lies within the text and holds no gap, has a hit at the last
+// place p: its window is checked by its global parents.
 fn has_hit(set: &[u32], text: &[i32], p: usize, j: usize, parents: &[u32]) -> bool
     requires { ⌜ IsSet (now set) ⌝ }
     requires { ⌜ (p < length (now text)) × (j < length (patternsOf (now set))) × (length (getD (patternsOf (now set)) j []) ≤ suc p) ⌝ }
+    requires { ⌜ holdsGap (lastOf (length (getD (patternsOf (now set)) j [])) (take (suc p) (now text))) ≡ false ⌝ }
     requires { ⌜ Parents (patternsOf (now set)) (now parents) ⌝ }
     ensures { λ r. ⌜ r ≡ isHit (take (suc p) (now (text .entry))) (getD (patternsOf (now (set .entry))) j []) ⌝ }
 {
@@ -170,12 +206,13 @@ fn verified(
 }
 
 // The patterns that have a hit at the last place p, where own is the fingerprint of the last 17
-// values.
+// values, and begin is where the samples behind the last gap up to p begin.
 pub fn hits_at(
     set: &[u32],
     text: &[i32],
     p: usize,
     own: u32,
+    begin: usize,
     ownlow: &[u64; 256],
     ownhigh: &[u64; 256],
     fits: &[u64; 256],
@@ -183,10 +220,10 @@ pub fn hits_at(
     parents: &[u32],
 ) -> u64
     requires { ⌜ IsSet (now set) ⌝ }
-    requires { ⌜ (p < length (now text)) × (own ≡ textFingerprint 17 (take (suc p) (now text))) ⌝ }
+    requires { ⌜ (p < length (now text)) × (own ≡ textFingerprint 17 (take (suc p) (now text))) × Since (now text) (suc p) begin ⌝ }
     requires { ⌜ HitTables (patternsOf (now set)) (now ownlow) (now ownhigh) (now fits) (now numbers) (now parents) ⌝ }
     ensures { λ s. ⌜ SetOf (patternsOf (now (set .entry))) (isHit (take (suc p) (now (text .entry)))) s ⌝ }
 {
-    let likely = look(ownlow, ownhigh, fits, own, p);
+    let likely = look(ownlow, ownhigh, fits, own, p + 1 - begin);
     verified(set, text, p, likely, numbers, parents)
 }

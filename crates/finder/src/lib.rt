@@ -18,7 +18,7 @@ use answers::Written;
 
 // ---- one pattern
 
-// Writes the parent distances of the values. Refuses 1 2 10.
+// Writes the parent distances of the values. Refuses 1 2 13 10.
 pub fn distances(values: &[i32], out: &mut [u32]) -> Written
     ensures { λ r. ⌜ toldWritten r ≡ told 0 (distancesEntry (now (values .entry)) (now (out .entry))) ⌝ }
     ensures { λ _. ⌜ now (out .exit) ≡ after (distancesEntry (now (values .entry)) (now (out .entry))) (now (out .entry)) ⌝ }
@@ -93,7 +93,7 @@ pub fn check_set(words: &[u32]) -> SetSize
 }
 
 // Adds a pattern, given as values, as the last one, in place; tells the size of the larger set.
-// Refuses 1 2 5 6 10.
+// Refuses 1 2 13 5 6 10.
 pub fn add_pattern(words: &mut [u32], values: &[i32]) -> SetSize
     ensures { λ r. ⌜ toldSize r ≡ told (0, 0) (addEntry (now (words .entry)) (now (values .entry))) ⌝ }
     ensures { λ _. ⌜ now (words .exit) ≡ after (addEntry (now (words .entry)) (now (values .entry))) (now (words .entry)) ⌝ }

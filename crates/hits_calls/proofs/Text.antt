@@ -11,7 +11,8 @@ use Rattle.matching.specs.Matching.{hitWords, chain}
 use Rattle.matching.proofs.HitWords.{length-hitWords}
 use Rattle.entries.specs.Entries.{Conditions, firstMet, unless, told, after, isUnsearchable, Counts, streamConditions, streamEntry, streamState}
 use Rattle.automaton_model.specs.Automaton.{headOf, automatonWords, advance, endingAt, listed}
-use Rattle.search_model.specs.Search.{goodState, feed, step, call, stop, andThen, ringOf}
+use Rattle.search_model.specs.Search.{goodState, feed, sampled, step, call, stop, andThen, ringOf}
+use Rattle.search_model.proofs.Feed.{step-cases}
 use Rattle.search_model.specs.Ring.{distanceOf}
 use Rattle.entries.proofs.Refusals.{first-unmet}
 use Rattle.hits_output.specs.Output.{hitLines, hitsIn}
@@ -35,12 +36,16 @@ listed-below : (ps : PatternSet) (h : List ℕ) (j : ℕ) → List·Memᴰ j (li
 unfolding listed
 listed-below ps h j m = ending-below ps j (chain ps h) m
 
-step-below : (ps : PatternSet) (st : SearchState) (x : ℤ) (h : ℕ × ℕ) → List·Memᴰ h (step ps st x .hits) → h .1 < length ps
-unfolding step
-step-below ps st x h m =
+sample-below : (ps : PatternSet) (st : SearchState) (x : ℤ) (h : ℕ × ℕ) → List·Memᴰ h (sampled ps st x .hits) → h .1 < length ps
+unfolding sampled
+sample-below ps st x h m =
     let g = advance ps (headOf ps (st .node)) (distanceOf (st .taken) (ringOf st) x) .0 in
     let r = mem-map (λ j. (st .taken, j)) (listed ps g) h .0 m in
     subst (λ (k : ℕ). k < length ps) (sym (ap (λ (z : ℕ × ℕ). z .1) (r .2))) (listed-below ps g (r .0) (r .1))
+
+step-below : (ps : PatternSet) (st : SearchState) (x : ℤ) (h : ℕ × ℕ) → List·Memᴰ h (step ps st x .hits) → h .1 < length ps
+step-below ps st x h =
+    step-cases ps st x (λ s. List·Memᴰ h (s .hits) → h .1 < length ps) (λ o m. absurd (List·Memᴰ·not-nil m)) (λ o. sample-below ps st x h)
 
 call-below : (ps : PatternSet) (xs : List ℤ) (st : SearchState) (free : ℕ) (h : ℕ × ℕ) → List·Memᴰ h (call ps st free xs .hits) → h .1 < length ps
 unfolding feed

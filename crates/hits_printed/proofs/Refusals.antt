@@ -11,6 +11,7 @@ use Rattle.lists.proofs.Rows.{flatten-snoc}
 use Rattle.lists.proofs.Tests.{true-T, and-join}
 use Rattle.lists.proofs.Same.{begins-iff}
 use Rattle.lists.proofs.Members.{all-mem, mem-all}
+use Rattle.gaps.specs.Gaps.{holdsGap}
 use Rattle.cartesian.specs.Cartesian.{distances}
 use Rattle.cartesian.proofs.Seek.{length-distances}
 use Rattle.realization.specs.Realization.{Realizable, realizable}
@@ -77,7 +78,8 @@ holds-set ws ps h = (ap isSet (h .words) ∙ isSet-words ps (h .rest) (h .good),
 -- the refusal of adding to such an array that has room
 addRefusal : PatternSet → List ℤ → ℕ
 addRefusal ps xs =
-    cond (eqb (length xs) 0) 1 (cond (ltb 256 (length xs)) 2 (cond (leb 64 (length ps) || ltb 4096 (length (flatten ps) + length xs)) 6 0))
+    cond (eqb (length xs) 0) 1 (cond (ltb 256 (length xs)) 2 (cond (holdsGap xs) 13
+    (cond (leb 64 (length ps) || ltb 4096 (length (flatten ps) + length xs)) 6 0)))
 
 -- none: the pattern is good, and there is room for it
 record Fits (ps : PatternSet) (xs : List ℤ) : Type 0 where
@@ -88,15 +90,16 @@ record Fits (ps : PatternSet) (xs : List ℤ) : Type 0 where
 fits : (ps : PatternSet) (xs : List ℤ) → addRefusal ps xs ≡ 0 → Fits ps xs
 unfolding addRefusal
 fits ps xs e =
-    go (eqb (length xs) 0) refl (ltb 256 (length xs)) refl (leb 64 (length ps)) refl (ltb 4096 (length (flatten ps) + length xs)) refl e
+    go (eqb (length xs) 0) refl (ltb 256 (length xs)) refl (holdsGap xs) (leb 64 (length ps)) refl (ltb 4096 (length (flatten ps) + length xs)) refl e
   where
-    go : (a : Bool) → eqb (length xs) 0 ≡ a → (b : Bool) → ltb 256 (length xs) ≡ b → (c : Bool) → leb 64 (length ps) ≡ c
-        → (d : Bool) → ltb 4096 (length (flatten ps) + length xs) ≡ d → _≡_ {A = ℕ} (cond a 1 (cond b 2 (cond (c || d) 6 0))) 0 → Fits ps xs
-    go true p b q c r d s f = absurd (let y : ⊥ = omega arith in y)
-    go false p true q c r d s f = absurd (let y : ⊥ = omega arith in y)
-    go false p false q true r d s f = absurd (let y : ⊥ = omega arith in y)
-    go false p false q false r true s f = absurd (let y : ⊥ = omega arith in y)
-    go false p false q false r false s f =
+    go : (a : Bool) → eqb (length xs) 0 ≡ a → (b : Bool) → ltb 256 (length xs) ≡ b → (o c : Bool) → leb 64 (length ps) ≡ c
+        → (d : Bool) → ltb 4096 (length (flatten ps) + length xs) ≡ d → _≡_ {A = ℕ} (cond a 1 (cond b 2 (cond o 13 (cond (c || d) 6 0)))) 0 → Fits ps xs
+    go true p b q o c r d s f = absurd (let y : ⊥ = omega arith in y)
+    go false p true q o c r d s f = absurd (let y : ⊥ = omega arith in y)
+    go false p false q true c r d s f = absurd (let y : ⊥ = omega arith in y)
+    go false p false q false true r d s f = absurd (let y : ⊥ = omega arith in y)
+    go false p false q false false r true s f = absurd (let y : ⊥ = omega arith in y)
+    go false p false q false false r false s f =
         record {
           good = good-values xs p (ltb-false 256 (length xs) q);
           few = leb-false 64 (length ps) r;
@@ -110,16 +113,17 @@ module _ (ws : List ℕ) (ps : PatternSet) (xs : List ℤ) (h : Holds ws ps) (l 
   add-refusal =
       let w = holds-set ws ps h in
       rw (w .0, w .1)
-      (go (eqb (length xs) 0) (ltb 256 (length xs)) (leb 64 (length ps)) refl (ltb 4096 (length (flatten ps) + length xs)))
+      (go (eqb (length xs) 0) (ltb 256 (length xs)) (holdsGap xs) (leb 64 (length ps)) refl (ltb 4096 (length (flatten ps) + length xs)))
     where
-      go : (a b c : Bool) → leb 64 (length ps) ≡ c → (d : Bool)
-          → firstMet ((1, a) ∷ (2, b) ∷ (5, false) ∷ (6, c || d) ∷ (10, ltb (length ws) (4 + length ps + (length (flatten ps) + length xs))) ∷ [])
-          ≡ cond a 1 (cond b 2 (cond (c || d) 6 0))
-      go true b c r d = refl
-      go false true c r d = refl
-      go false false true r d = refl
-      go false false false r true = refl
-      go false false false r false =
+      go : (a b o c : Bool) → leb 64 (length ps) ≡ c → (d : Bool)
+          → firstMet ((1, a) ∷ (2, b) ∷ (13, o) ∷ (5, false) ∷ (6, c || d) ∷ (10, ltb (length ws) (4 + length ps + (length (flatten ps) + length xs))) ∷ [])
+          ≡ cond a 1 (cond b 2 (cond o 13 (cond (c || d) 6 0)))
+      go true b o c r d = refl
+      go false true o c r d = refl
+      go false false true c r d = refl
+      go false false false true r d = refl
+      go false false false false r true = refl
+      go false false false false r false =
           let f = leb-false 64 (length ps) r in
           rw (le-ltb (length ws) (4 + length ps + (length (flatten ps) + length xs))
           (let y : 4 + length ps + (length (flatten ps) + length xs) ≤ length ws = omega arith in y)) refl
@@ -160,14 +164,16 @@ refusal-cons : (ps : PatternSet) (xs : List ℤ) (xss : List (List ℤ))
     → refusalOf ps (xs ∷ xss) ≡ unless (addRefusal ps xs) (refusalOf (ps ++ (distances xs ∷ [])) xss) (addRefusal ps xs)
 unfolding refusalOf addRefusal
 refusal-cons ps xs xss =
-    go (eqb (length xs) 0) (ltb 256 (length xs)) (leb 64 (length ps) || ltb 4096 (length (flatten ps) + length xs))
+    go (eqb (length xs) 0) (ltb 256 (length xs)) (holdsGap xs) (leb 64 (length ps) || ltb 4096 (length (flatten ps) + length xs))
     (refusalOf (ps ++ (distances xs ∷ [])) xss)
   where
-    go : (a b c : Bool) (n : ℕ) → cond a 1 (cond b 2 (cond c 6 n)) ≡ unless (cond a 1 (cond b 2 (cond c 6 0))) n (cond a 1 (cond b 2 (cond c 6 0)))
-    go true b c n = refl
-    go false true c n = refl
-    go false false true n = refl
-    go false false false n = refl
+    go : (a b o c : Bool) (n : ℕ) → cond a 1 (cond b 2 (cond o 13 (cond c 6 n)))
+        ≡ unless (cond a 1 (cond b 2 (cond o 13 (cond c 6 0)))) n (cond a 1 (cond b 2 (cond o 13 (cond c 6 0))))
+    go true b o c n = refl
+    go false true o c n = refl
+    go false false true c n = refl
+    go false false false true n = refl
+    go false false false false n = refl
 
 length-cons : (xs : List ℤ) (xss : List (List ℤ)) → length (flatten (xs ∷ xss)) ≡ length xs + length (flatten xss)
 unfolding flatten

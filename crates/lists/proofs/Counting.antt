@@ -117,9 +117,9 @@ count-no test n f = go (test n) refl
     go false e = count-next test n ∙ ap (λ (b : Bool). count test n + cond b 1 0) e ∙ (omega arith)
 
 -- numbers that do not pass are not counted
-pub count-gap : (test : ℕ → Bool) (q n : ℕ) → q ≤ n → ((j : ℕ) → q ≤ j → j < n → T (test j) → ⊥) → count test n ≡ count test q
-count-gap test q zero h f = ap (count test) (let e : 0 ≡ q = omega arith in e)
-count-gap test q (suc n) h f = go (decLt q (suc n)) (count-gap test q n)
+pub count-skip : (test : ℕ → Bool) (q n : ℕ) → q ≤ n → ((j : ℕ) → q ≤ j → j < n → T (test j) → ⊥) → count test n ≡ count test q
+count-skip test q zero h f = ap (count test) (let e : 0 ≡ q = omega arith in e)
+count-skip test q (suc n) h f = go (decLt q (suc n)) (count-skip test q n)
   where
     go : Dec (q < suc n) → (q ≤ n → ((j : ℕ) → q ≤ j → j < n → T (test j) → ⊥) → count test n ≡ count test q) → count test (suc n) ≡ count test q
     go (yes l) ih = count-no test n (f n (omega arith) (omega arith)) ∙ ih (omega arith) (λ j a b. f j a (omega arith))
@@ -136,5 +136,5 @@ count-from test q (suc n) h f = go (decLt q (suc n)) (test n) (count-next test n
     go (yes l) true e ih = let r = ih (omega arith) f in omega arith
     go (yes l) false e ih = let r = ih (omega arith) f in omega arith
     go (no g) b e ih =
-        let z : count test (suc n) ≡ 0 = count-gap test 0 (suc n) (omega arith) (λ j a l. f j (omega arith)) in
+        let z : count test (suc n) ≡ 0 = count-skip test 0 (suc n) (omega arith) (λ j a l. f j (omega arith)) in
         omega arith

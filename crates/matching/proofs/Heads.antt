@@ -8,19 +8,22 @@ use Rattle.lists.proofs.Tests.{true-T, test-ext}
 use Rattle.lists.proofs.Members.{any-mem, mem-any, all-mem}
 use Rattle.lists.proofs.Parts.{length-lastOf, lastOf-lastOf}
 use Rattle.lists.proofs.LastBelow.{lastBelow-ext, lastBelow-le, lastBelow-passes, lastBelow-none}
+use Rattle.gaps.specs.Gaps.{holdsGap}
+use Rattle.gaps.proofs.Laws.{drop-none, lastOf-none, pos-none}
 use Rattle.cartesian.specs.Cartesian.{treeWithin, tree, sameTree, distances, treeOfWithin, treeOf}
 use Rattle.cartesian.specs.Windows.{suffixDistances}
 use Rattle.cartesian.proofs.Seek.{length-distances}
 use Rattle.cartesian.proofs.ByList.{distances-take}
-use Rattle.cartesian.proofs.Matching.{trees-iff-distances, sameTree-eq, eq-sameTree}
+use Rattle.cartesian.proofs.Matching.{trees-iff-distances}
 use Rattle.cartesian.proofs.Window.{distances-lastOf}
 use Rattle.cartesian.proofs.TreeOf.{treeOf-distances}
-use Rattle.realization.specs.Realization.{Realizable, realizable, leastRealization}
+use Rattle.realization.specs.Realization.{Realizable, realizable, leftTurns, leastRealization}
 use Rattle.realization.proofs.Realizable.{realizable-iff}
 use Rattle.realization.proofs.LeastRealization.{least-distances}
 use Rattle.pattern_set.specs.PatternSet.{PatternSet}
 use Rattle.matching.specs.Matching.{hasTree, isHead, headTree, failure, chainWithin, chain}
 use Rattle.matching.specs.HeadLengths.{headLengths}
+use Rattle.matching.proofs.Trees.{hasTree-whole, hasTree-tree, tree-hasTree}
 
 -- ---- shortening
 
@@ -44,41 +47,48 @@ head-shorter ps h n t =
 
 -- ---- by trees and by distances
 
--- a window has the tree of a realizable list exactly if it has these distances
-pub hasTree-iff : (window : List ℤ) (ds : List ℕ) → T (realizable ds) → T (hasTree window ds) ↔ (distances window ≡ ds)
-unfolding hasTree Realizable
-hasTree-iff w ds h =
+-- a window without a gap has the tree of a realizable list exactly if it has these distances
+pub hasTree-iff : (window : List ℤ) (ds : List ℕ) → holdsGap window ≡ false → T (realizable ds) → T (hasTree window ds) ↔ (distances window ≡ ds)
+unfolding Realizable
+hasTree-iff w ds o h =
     let p = realizable-iff ds .0 h in
     let e : treeOf ds ≡ tree (p .0) = ap treeOf (sym (p .1)) ∙ treeOf-distances (p .0) in (
-      λ t. trees-iff-distances w (p .0) .0 (sameTree-eq (tree w) (treeOf ds) t ∙ e) ∙ p .1,
-      λ q. eq-sameTree (tree w) (treeOf ds) (trees-iff-distances w (p .0) .1 (q ∙ sym (p .1)) ∙ sym e),
+      λ t. trees-iff-distances w (p .0) .0 (hasTree-tree w ds t ∙ e) ∙ p .1,
+      λ q. tree-hasTree w ds o (trees-iff-distances w (p .0) .1 (q ∙ sym (p .1)) ∙ sym e),
     )
 
--- a window has the tree of some head exactly if its distances are a head
-pub headTree-isHead : (ps : PatternSet) (window : List ℤ) → T (all realizable ps) → headTree ps window ≡ isHead ps (distances window)
+-- what has the tree of some head holds no gap
+pub headTree-whole : (ps : PatternSet) (window : List ℤ) → T (headTree ps window) → holdsGap window ≡ false
+unfolding headTree
+headTree-whole ps w t =
+    let r = any-mem (λ p. hasTree w (take (length w) p)) ps t in
+    hasTree-whole w (take (length w) (r .0)) (r .2)
+
+-- a window without a gap has the tree of some head exactly if its distances are a head
+pub headTree-isHead : (ps : PatternSet) (window : List ℤ) → holdsGap window ≡ false → T (all realizable ps) → headTree ps window ≡ isHead ps (distances window)
 unfolding headTree isHead
-headTree-isHead ps w g =
+headTree-isHead ps w o g =
     test-ext (any (λ p. hasTree w (take (length w) p)) ps) (any (λ p. begins p (distances w)) ps)
     (λ t.
     let r = any-mem (λ p. hasTree w (take (length w) p)) ps t in
     let z = realizable-take (length w) (r .0) (all-mem realizable ps g (r .0) (r .1)) in
     mem-any (λ p. begins p (distances w)) ps (r .0) (r .1)
-    (eq-same (take (length (distances w)) (r .0)) (distances w) (rw length-distances (sym (hasTree-iff w (take (length w) (r .0)) z .0 (r .2))))))
+    (eq-same (take (length (distances w)) (r .0)) (distances w) (rw length-distances (sym (hasTree-iff w (take (length w) (r .0)) o z .0 (r .2))))))
     (λ t.
     let r = any-mem (λ p. begins p (distances w)) ps t in
     let z = realizable-take (length w) (r .0) (all-mem realizable ps g (r .0) (r .1)) in
     let e : take (length w) (r .0) ≡ distances w =
     subst (λ (k : ℕ). take k (r .0) ≡ distances w) (length-distances w) (same-eq (take (length (distances w)) (r .0)) (distances w) (r .2)) in
     mem-any (λ p. hasTree w (take (length w) p)) ps (r .0) (r .1)
-    (hasTree-iff w (take (length w) (r .0)) z .1 (sym e)))
+    (hasTree-iff w (take (length w) (r .0)) o z .1 (sym e)))
 
--- windows with equal distances agree on heads
-pub headTree-same : (ps : PatternSet) (v w : List ℤ) → distances v ≡ distances w → headTree ps v ≡ headTree ps w
+-- windows without a gap and with equal distances agree on heads
+pub headTree-same : (ps : PatternSet) (v w : List ℤ) → holdsGap v ≡ false → holdsGap w ≡ false → distances v ≡ distances w → headTree ps v ≡ headTree ps w
 unfolding headTree hasTree
-headTree-same ps v w e =
+headTree-same ps v w a b e =
     let t = trees-iff-distances v w .1 e in
     let n : length v ≡ length w = sym (length-distances v) ∙ ap length e ∙ length-distances w in
-    rw (t, n) refl
+    rw (a, b, t, n) refl
 
 -- ---- the failure link of a suffix
 
@@ -90,12 +100,17 @@ longestBelow ps text n = pred (lastBelow (λ m. headTree ps (lastOf m text)) n)
 suffix-same : (v w : List ℤ) (m : ℕ) → distances v ≡ distances w → distances (lastOf m v) ≡ distances (lastOf m w)
 suffix-same v w m e = distances-lastOf m v ∙ ap (suffixDistances m) e ∙ sym (distances-lastOf m w)
 
--- THE FAILURE LINK of the head that a suffix of the text has leads to the next shorter suffix that
--- has one
-pub failure-next : (ps : PatternSet) (text : List ℤ) (n : ℕ) → n ≤ length text
+-- the least values are samples
+pub least-whole : (m : ℕ) (ds : List ℕ) → holdsGap (lastOf m (leastRealization ds)) ≡ false
+unfolding leastRealization
+least-whole m ds = let xs = leastRealization ds in drop-none (length xs - m) xs (pos-none (leftTurns (treeOf ds)))
+
+-- THE FAILURE LINK of the head that a suffix of the text without a gap has leads to the next
+-- shorter suffix that has one
+pub failure-next : (ps : PatternSet) (text : List ℤ) (n : ℕ) → n ≤ length text → holdsGap (lastOf n text) ≡ false
     → failure ps (distances (lastOf n text)) ≡ distances (lastOf (longestBelow ps text n) text)
 unfolding failure
-failure-next ps text n h =
+failure-next ps text n h o =
     let w = lastOf n text in
     let xs = leastRealization (distances w) in
     let e : distances xs ≡ distances w = least-distances (distances w) (distances-realizable w) in
@@ -105,7 +120,8 @@ failure-next ps text n h =
     let f : lastBelow (λ m. headTree ps (lastOf m xs)) (length (distances w)) ≡ lastBelow (λ m. headTree ps (lastOf m text)) n =
     ap (lastBelow (λ m. headTree ps (lastOf m xs))) l
     ∙ lastBelow-ext (λ m. headTree ps (lastOf m xs)) (λ m. headTree ps (lastOf m text)) n
-    (λ m k. headTree-same ps (lastOf m xs) (lastOf m text) (same-below m (omega arith))) in
+    (λ m k. headTree-same ps (lastOf m xs) (lastOf m text) (least-whole m (distances w))
+    (lastOf-none m n text (omega arith) o) (same-below m (omega arith))) in
     ap (λ (m : ℕ). distances (lastOf (pred m) xs)) f
     ∙ same-below (longestBelow ps text n) (below (lastBelow (λ m. headTree ps (lastOf m text)) n) (lastBelow-le (λ m. headTree ps (lastOf m text)) n))
   where
@@ -161,7 +177,7 @@ chain-within ps text z (suc k) (suc n) l h t =
     let q = r .0 in
     let b = lastBelow-le (λ m. headTree ps (lastOf m text)) (suc n) in
     let f : failure ps (distances (lastOf (suc n) text)) ≡ distances (lastOf q text) =
-    failure-next ps text (suc n) h ∙ ap (λ (m : ℕ). distances (lastOf (pred m) text)) (r .1) in
+    failure-next ps text (suc n) h (headTree-whole ps (lastOf (suc n) text) t) ∙ ap (λ (m : ℕ). distances (lastOf (pred m) text)) (r .1) in
     let ih = chain-within ps text z k q (omega (arith, r .1)) (omega (arith, r .1)) (lastBelow-passes (λ m. headTree ps (lastOf m text)) (suc n) q (r .1)) in
     let tail = lastOf (suc n) text in
     let is = true-T (headTree ps tail) t in

@@ -2,28 +2,29 @@
 -- and is as long as the pattern has the pattern's tree.
 use Rattle.lists.proofs.Prelude.{_≡_, _∙_, ap, sym, refl, subst, inl, inr, _⊎_, _↔_, Bool, true, false, cond, List, [], _∷_, _++_, List·Memᴰ, List·Memᴰ·head}
 use Rattle.lists.proofs.Prelude.{List·Memᴰ·tail, List·Memᴰ·not-nil, List·Memᴰ·cases-cons, List·Memᴰ·append-cases, Memᴰ·append-left, Memᴰ·append-right}
-use Rattle.lists.proofs.Prelude.{Memᴰ·cast, ℕ, zero, suc, pred, _+_, _<_, ℤ, T, length, getD, take, add-zero, zero-add, decLt, arith, lastOf, lastBelow}
+use Rattle.lists.proofs.Prelude.{Memᴰ·cast, ℕ, zero, suc, pred, _+_, _<_, ℤ, T, length, getD, take, add-zero, zero-add, decLt, arith, lastOf, lastBelow, any}
 use Rattle.lists.proofs.Parts.{length-lastOf}
 use Rattle.lists.proofs.Tests.{T-true}
 use Rattle.lists.proofs.Members.{mem-map}
 use Rattle.lists.proofs.Rows.{mem-flatten-tabulate}
+use Rattle.gaps.specs.Gaps.{isGap, holdsGap}
 use Rattle.cartesian.specs.Cartesian.{leaf, node, leftmostFrom, leftmost, treeWithin, tree, sameTree, cutFrom, rootPlace, treeOfWithin, treeOf}
 use Rattle.cartesian.proofs.HasTree.{equal-tree}
-use Rattle.cartesian.proofs.Matching.{sameTree-eq, eq-sameTree}
 use Rattle.pattern_set.specs.PatternSet.{PatternSet}
 use Rattle.matching.specs.Matching.{hasTree, numbersFrom, endHits, lastHits, hitsAt, hits}
 use Rattle.matching.specs.HitList.{EndsWith}
+use Rattle.matching.proofs.Trees.{hasTree-whole, hasTree-tree, tree-hasTree}
 use Rattle.matching.proofs.Sizes.{hasTree-length}
 
 one-tree : (x : ℤ) → tree (x ∷ []) ≡ node leaf leaf
 unfolding tree treeWithin leftmost leftmostFrom
 one-tree x = refl
 
--- at one place the longer pattern comes first: the last of two equal values ends pattern 1, two
+-- at one place the longer pattern comes first: the last of two equal samples ends pattern 1, two
 -- values that do not fall, and pattern 0, one value
-pub longer-first : (x : ℤ) → lastHits ((0 ∷ []) ∷ (0 ∷ 1 ∷ []) ∷ []) (x ∷ x ∷ []) ≡ 1 ∷ 0 ∷ []
-unfolding endHits numbersFrom hasTree sameTree treeOf treeOfWithin rootPlace cutFrom lastBelow
-longer-first x = rw (equal-tree x, one-tree x) refl
+pub longer-first : (x : ℤ) → isGap x ≡ false → lastHits ((0 ∷ []) ∷ (0 ∷ 1 ∷ []) ∷ []) (x ∷ x ∷ []) ≡ 1 ∷ 0 ∷ []
+unfolding endHits numbersFrom hasTree any sameTree treeOf treeOfWithin rootPlace cutFrom lastBelow
+longer-first x e = rw (e, equal-tree x, one-tree x) refl
 
 -- ---- the patterns with the tree of one window
 
@@ -94,7 +95,6 @@ mem-endHits ps text (suc n) j m h d = go (decLt m n) (mem-endHits ps text n j m)
         Memᴰ·append-left (endHits ps text n) (subst (λ (k : ℕ). List·Memᴰ j (numbersFrom 0 (lastOf (suc k) text) ps)) e d)
 
 pub lastHits-iff : (ps : PatternSet) (text : List ℤ) (j : ℕ) → List·Memᴰ j (lastHits ps text) ↔ ((j < length ps) × EndsWith text (getD ps j []))
-unfolding hasTree
 lastHits-iff ps text j = (from, to)
   where
     from : List·Memᴰ j (lastHits ps text) → (j < length ps) × EndsWith text (getD ps j [])
@@ -109,16 +109,17 @@ lastHits-iff ps text j = (from, to)
           (
             omega (arith, l),
             omega (arith, l, r .1),
-            subst (λ (n : ℕ). tree (lastOf n text) ≡ treeOf (getD ps j [])) l (sameTree-eq (tree (lastOf (suc (r .0)) text)) (treeOf (getD ps j [])) t),
+            subst (λ (n : ℕ). holdsGap (lastOf n text) ≡ false) l (hasTree-whole (lastOf (suc (r .0)) text) (getD ps j []) t),
+            subst (λ (n : ℕ). tree (lastOf n text) ≡ treeOf (getD ps j [])) l (hasTree-tree (lastOf (suc (r .0)) text) (getD ps j []) t),
           ),
         )
 
     to : (j < length ps) × EndsWith text (getD ps j []) → List·Memᴰ j (lastHits ps text)
-    to (h, (nonempty, fits, e)) =
+    to (h, (nonempty, inside, whole, e)) =
         let l : length (getD ps j []) ≡ suc (pred (length (getD ps j []))) = omega arith in
         let t : T (hasTree (lastOf (suc (pred (length (getD ps j [])))) text) (getD ps j [])) =
-        eq-sameTree (tree (lastOf (suc (pred (length (getD ps j [])))) text)) (treeOf (getD ps j []))
-        (subst (λ (n : ℕ). tree (lastOf n text) ≡ treeOf (getD ps j [])) l e) in
+        tree-hasTree (lastOf (suc (pred (length (getD ps j [])))) text) (getD ps j [])
+        (subst (λ (n : ℕ). holdsGap (lastOf n text) ≡ false) l whole) (subst (λ (n : ℕ). tree (lastOf n text) ≡ treeOf (getD ps j [])) l e) in
         mem-endHits ps text (length text) j (pred (length (getD ps j []))) (omega arith)
         (Memᴰ·cast (sym (zero-add j)) (mem-numbersFrom 0 (lastOf (suc (pred (length (getD ps j [])))) text) ps j h t))
 

@@ -1,4 +1,5 @@
 -- The root of the crate's laws.
+pub mod Trees
 pub mod Sizes
 pub mod HitsIff
 pub mod HitsOrder

@@ -1,13 +1,15 @@
 -- What a list of hits must be: every pair of a pattern and a window with equal trees, and no other;
 -- each once, and in order. Document 01: Hits of R; the order of a search's list.
-use Rattle.lists.specs.Prelude.{_≡_, _⊎_, _↔_, List, [], List·Memᴰ, ℕ, suc, _≤_, _<_, ℤ, length, getD, take, lastOf}
+use Rattle.lists.specs.Prelude.{_≡_, _⊎_, _↔_, false, List, [], List·Memᴰ, ℕ, suc, _≤_, _<_, ℤ, length, getD, take, lastOf}
+use Rattle.gaps.specs.Gaps.{holdsGap}
 use Rattle.cartesian.specs.Cartesian.{tree, treeOf}
 use Rattle.pattern_set.specs.PatternSet.{PatternSet}
 
--- the window at the end of the text that is as long as the pattern lies within the text and has the
--- pattern's tree
+-- the window at the end of the text that is as long as the pattern lies within the text, holds no
+-- gap and has the pattern's tree
 abbrev pub EndsWith : List ℤ → List ℕ → Type 0
-EndsWith text p = (0 < length p) × (length p ≤ length text) × (tree (lastOf (length p) text) ≡ treeOf p)
+EndsWith text p =
+    (0 < length p) × (length p ≤ length text) × (holdsGap (lastOf (length p) text) ≡ false) × (tree (lastOf (length p) text) ≡ treeOf p)
 
 -- the hit h, a last place and a pattern number, comes before g: its last place is earlier; or there
 -- its pattern is longer; or as long and its number lower

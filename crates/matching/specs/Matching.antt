@@ -1,7 +1,9 @@
 -- Search hits, by trees of windows; heads of patterns, and the failure of a head. Document 01: Hits
--- of R; the order of a search's list; A ladder, its rungs and their falls.
-use Rattle.lists.specs.Prelude.{Bool, cond, _&&_, List, [], _∷_, _++_, map, flatten, ℕ, zero, suc, pred, min, eqb, leb, ℤ, length, take, tabulate, lastBelow}
-use Rattle.lists.specs.Prelude.{lastOf, any, select, begins}
+-- of R; the order of a search's list; A ladder, its rungs and their falls. Document 02, 2.2: A
+-- window that holds a gap has no tree and is no hit; it is no candidate.
+use Rattle.lists.specs.Prelude.{Bool, cond, not, _&&_, List, [], _∷_, _++_, map, flatten, ℕ, zero, suc, pred, min, eqb, leb, ℤ, length, take, tabulate}
+use Rattle.lists.specs.Prelude.{lastBelow, lastOf, any, select, begins}
+use Rattle.gaps.specs.Gaps.{holdsGap}
 use Rattle.cartesian.specs.Cartesian.{tree, sameTree, treeOf, distances}
 use Rattle.pattern_set.specs.PatternSet.{PatternSet}
 use Rattle.realization.specs.Realization.{leastRealization}
@@ -9,9 +11,9 @@ use Rattle.fingerprint.specs.Fingerprint.{fingerprint}
 
 -- ---- Search hits, by trees of windows. Document 01: Hits of R; the order of a search's list.
 
--- the window has the tree of the pattern
+-- the window has the tree of the pattern; one that holds a gap has none
 unfoldable pub hasTree : List ℤ → List ℕ → Bool
-hasTree window p = sameTree (tree window) (treeOf p)
+hasTree window p = not (holdsGap window) && sameTree (tree window) (treeOf p)
 
 -- the numbers of the patterns, the first of which has number j, that have the tree of the window,
 -- lower number first
@@ -74,10 +76,14 @@ unfoldable pub shortest : ℕ → PatternSet → ℕ
 shortest bound [] = bound
 shortest bound (p ∷ ps) = shortest (min bound (length p)) ps
 
--- is the pattern a candidate at the end of the text: its window lies within it, and their last b
--- values have one fingerprint
+-- does the pattern's window at the end of the text lie within it, and hold no gap
+abbrev pub fits : List ℤ → List ℕ → Bool
+fits text p = leb (length p) (length text) && not (holdsGap (lastOf (length p) text))
+
+-- is the pattern a candidate at the end of the text: its window fits, and their last b values have
+-- one fingerprint
 unfoldable pub isCandidate : ℕ → List ℤ → List ℕ → Bool
-isCandidate b text p = leb (length p) (length text) && eqb (fingerprint (lastOf b text)) (fingerprint (lastOf b (leastRealization p)))
+isCandidate b text p = fits text p && eqb (fingerprint (lastOf b text)) (fingerprint (lastOf b (leastRealization p)))
 
 -- the candidates of a text, one for each last place and pattern
 unfoldable pub candidates : PatternSet → List ℤ → ℕ

@@ -4,6 +4,7 @@
 use Rattle.lists.proofs.Prelude.{_≡_, _∙_, ap, sym, refl, Bool, true, false, not, List, [], _∷_, _++_, ℕ, _≤_, _<_, ℤ, eqb, ltb, length, take, drop, take-at}
 use Rattle.lists.proofs.Prelude.{eq-eqb, ne-eqb, not-false, lt-ltb, le-ltb, ltb-false}
 use Rattle.lists.proofs.Tables.{length-tabulate}
+use Rattle.gaps.specs.Gaps.{holdsGap}
 use Rattle.realization.specs.Realization.{realizable, failureLengths}
 use Rattle.ranking.specs.Rank.{factorial, unrank, isRank}
 use Rattle.ranking.proofs.Rank.{length-unrank}
@@ -38,11 +39,16 @@ module _ (xs : List ℤ) (out : List ℕ) where
   pub distances-too-long : (length xs ≡ 0 → ⊥) → 256 < length xs → firstMet (distancesEntry xs out .conditions) ≡ 2
   distances-too-long e l = simp (ne-eqb (length xs) 0 e, lt-ltb 256 (length xs) l)
 
-  pub distances-array-too-short : (length xs ≡ 0 → ⊥) → length xs ≤ 256 → length out < length xs → firstMet (distancesEntry xs out .conditions) ≡ 10
-  distances-array-too-short e l a = simp (ne-eqb (length xs) 0 e, le-ltb 256 (length xs) l, lt-ltb (length out) (length xs) a)
+  pub distances-gap : (length xs ≡ 0 → ⊥) → length xs ≤ 256 → holdsGap xs ≡ true → firstMet (distancesEntry xs out .conditions) ≡ 13
+  distances-gap e l o = simp (ne-eqb (length xs) 0 e, le-ltb 256 (length xs) l, o)
 
-  pub distances-good : (length xs ≡ 0 → ⊥) → length xs ≤ 256 → length xs ≤ length out → firstMet (distancesEntry xs out .conditions) ≡ 0
-  distances-good e l a = simp (ne-eqb (length xs) 0 e, le-ltb 256 (length xs) l, le-ltb (length out) (length xs) a)
+  pub distances-array-too-short : (length xs ≡ 0 → ⊥) → length xs ≤ 256 → holdsGap xs ≡ false → length out < length xs
+      → firstMet (distancesEntry xs out .conditions) ≡ 10
+  distances-array-too-short e l o a = simp (ne-eqb (length xs) 0 e, le-ltb 256 (length xs) l, o, lt-ltb (length out) (length xs) a)
+
+  pub distances-good : (length xs ≡ 0 → ⊥) → length xs ≤ 256 → holdsGap xs ≡ false → length xs ≤ length out
+      → firstMet (distancesEntry xs out .conditions) ≡ 0
+  distances-good e l o a = simp (ne-eqb (length xs) 0 e, le-ltb 256 (length xs) l, o, le-ltb (length out) (length xs) a)
 
 -- ---- a list of distances, into an array of the given room
 

@@ -28,6 +28,9 @@ pub fn distances(values: &[i32], out: &mut [u32]) -> Written
     if values.len() > 256 {
         return Written::Refused(Refusal::TooLong);
     }
+    if gaps::hold_gap(values) {
+        return Written::Refused(Refusal::HoldsGap);
+    }
     if out.len() < values.len() {
         return Written::Refused(Refusal::ArrayTooShort);
     }

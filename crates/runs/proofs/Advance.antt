@@ -6,12 +6,14 @@ use Rattle.lists.proofs.Prelude.{le→leb, length, le-refl, decLt, arith, lastO
 use Rattle.lists.proofs.Tests.{and-split, and-join, T-true, true-T}
 use Rattle.lists.proofs.Parts.{length-lastOf, lastOf-snoc}
 use Rattle.lists.proofs.LastBelow.{lastBelow-le, lastBelow-passes, lastBelow-none}
-use Rattle.lists.proofs.Counting.{count-yes, count-gap, count}
+use Rattle.lists.proofs.Counting.{count-yes, count-skip, count}
+use Rattle.gaps.specs.Gaps.{isGap}
+use Rattle.gaps.proofs.Laws.{snoc-none}
 use Rattle.cartesian.specs.Cartesian.{distanceAt, distances, cut}
 use Rattle.cartesian.proofs.Seek.{length-distances}
 use Rattle.pattern_set.specs.PatternSet.{PatternSet, goodSet}
 use Rattle.matching.specs.Matching.{isHead, headTree, failure}
-use Rattle.matching.proofs.Heads.{headTree-isHead, failure-next}
+use Rattle.matching.proofs.Heads.{headTree-whole, headTree-isHead, failure-next}
 use Rattle.automaton_model.specs.Automaton.{extended, advanceWithin, advance}
 use Rattle.pattern_set.proofs.Good.{good-realizable}
 use Rattle.runs.specs.ReferenceRun.{longestExtended, attempts, longestHead}
@@ -37,7 +39,7 @@ tried-last : (ps : PatternSet) (text : List ℤ) (q : ℕ) → T (headSuffix ps 
 unfolding tabulate select
 tried-last ps text q t =
     count-yes (tried ps text q) q (and-join (leb q q) (headSuffix ps text q) (le→leb q q (le-refl q)) t)
-    ∙ ap suc (count-gap (tried ps text q) 0 q (omega arith) (λ j a b s. below j b (leb→le q j (and-split (leb q j) (headSuffix ps text j) s .0))))
+    ∙ ap suc (count-skip (tried ps text q) 0 q (omega arith) (λ j a b s. below j b (leb→le q j (and-split (leb q j) (headSuffix ps text j) s .0))))
   where
     below : (j : ℕ) → j < q → q ≤ j → ⊥
     below j a b = omega arith
@@ -47,7 +49,7 @@ tried-more : (ps : PatternSet) (text : List ℤ) (q n r : ℕ) → q ≤ n → T
     → count (tried ps text q) (suc n) ≡ suc (count (tried ps text q) (suc r))
 tried-more ps text q n r h t e l =
     count-yes (tried ps text q) n (and-join (leb q n) (headSuffix ps text n) (le→leb q n h) t)
-    ∙ ap suc (count-gap (tried ps text q) (suc r) n l (λ j a b s. lastBelow-none (headSuffix ps text) n j (omega arith) b
+    ∙ ap suc (count-skip (tried ps text q) (suc r) n l (λ j a b s. lastBelow-none (headSuffix ps text) n j (omega arith) b
     (and-split (leb q j) (headSuffix ps text j) s .1)))
 
 -- what is reached, and the attempts, where the last suffix tried is the first
@@ -72,15 +74,16 @@ advance-falls k ps h f d reached made e u a = rw (e, u, a) refl
 
 -- from the suffix of n values, where the longest one that has the tree of some head also with the
 -- value behind it has q
-advance-within : (ps : PatternSet) (text : List ℤ) (x : ℤ) (d q : ℕ) → T (goodSet ps) → 0 < length ps → T (extendedSuffix ps text x q)
+advance-within : (ps : PatternSet) (text : List ℤ) (x : ℤ) (d q : ℕ) → isGap x ≡ false → T (goodSet ps) → 0 < length ps
+    → T (extendedSuffix ps text x q)
     → (k n : ℕ) → n ≤ k → n ≤ length text → q ≤ n → T (headSuffix ps text n)
     → ((j : ℕ) → q < j → j ≤ n → T (extendedSuffix ps text x j) → ⊥)
     → ((m : ℕ) → m ≤ n → cut m d ≡ cut m (distanceAt (text ++ (x ∷ [])) (length text)))
     → advanceWithin k ps (distances (lastOf n text)) d ≡ (distances (lastOf q text ++ (x ∷ [])), count (tried ps text q) (suc n))
 unfolding advanceWithin
-advance-within ps text x d q g z s zero n l h b t f c =
+advance-within ps text x d q o g z s zero n l h b t f c =
     last-attempt ps text x d q n h (omega arith) (c n (le-refl n)) (and-split (headSuffix ps text q) (headTree ps (lastOf q text ++ (x ∷ []))) s .0)
-advance-within ps text x d q g z s (suc k) n l h b t f c = go (decLt q n) (advance-within ps text x d q g z s k)
+advance-within ps text x d q o g z s (suc k) n l h b t f c = go (decLt q n) (advance-within ps text x d q o g z s k)
   where
     split : T (headSuffix ps text q) × T (headTree ps (lastOf q text ++ (x ∷ [])))
     split = and-split (headSuffix ps text q) (headTree ps (lastOf q text ++ (x ∷ []))) s
@@ -90,7 +93,7 @@ advance-within ps text x d q g z s (suc k) n l h b t f c = go (decLt q n) (advan
     extends : isHead ps (extended (distances (lastOf n text)) d) ≡ headTree ps (lastOf n text ++ (x ∷ []))
     extends =
         ap (isHead ps) (extended-is n text x d h (c n (le-refl n)))
-        ∙ sym (headTree-isHead ps (lastOf n text ++ (x ∷ [])) (good-realizable ps g))
+        ∙ sym (headTree-isHead ps (lastOf n text ++ (x ∷ [])) (snoc-none (lastOf n text) x (headTree-whole ps (lastOf n text) t) o) (good-realizable ps g))
 
     stops : n ≡ q → advanceWithin (suc k) ps (distances (lastOf n text)) d ≡ (distances (lastOf q text ++ (x ∷ [])), count (tried ps text q) (suc n))
     stops e =
@@ -115,7 +118,7 @@ advance-within ps text x d q g z s (suc k) n l h b t f c = go (decLt q n) (advan
         let i = r .0 in
         let li : i < n = r .2 in
         let v : q ≤ i = reach i (r .1) in
-        let u : failure ps (distances (lastOf n text)) ≡ distances (lastOf i text) = failure-next ps text n h ∙ ap
+        let u : failure ps (distances (lastOf n text)) ≡ distances (lastOf i text) = failure-next ps text n h (headTree-whole ps (lastOf n text) t) ∙ ap
         (λ (m : ℕ). distances (lastOf (pred m) text)) (r .1) in
         let a = ih i (omega arith) (omega arith) v (r .3) (λ j p e. f j p (omega arith)) (λ m p. c m (omega arith)) in
         advance-falls k ps (distances (lastOf n text)) (distances (lastOf i text)) d (distances (lastOf q text ++ (x ∷ [])))
@@ -130,25 +133,25 @@ advance-within ps text x d q g z s (suc k) n l h b t f c = go (decLt q n) (advan
             here (no p) = omega arith
 
 -- the attempts are the suffixes tried, from the longest one with the tree of some head on
-pub attempts-tried : (ps : PatternSet) (text : List ℤ) (x : ℤ)
+pub attempts-tried : (ps : PatternSet) (text : List ℤ) (x : ℤ) → isGap x ≡ false
     → attempts ps text x ≡ count (tried ps text (longestExtended ps text x)) (suc (longestHead ps text))
 unfolding attempts
-attempts-tried ps text x =
+attempts-tried ps text x o =
     let q = longestExtended ps text x in
-    count-gap (tried ps text q) (suc (longestHead ps text)) (suc (length text)) (let l = longestHead-le ps text in omega arith)
-    (λ j a b s. longestHead-none ps text j a (omega arith) (and-split (leb q j) (headSuffix ps text j) s .1))
+    rw o (count-skip (tried ps text q) (suc (longestHead ps text)) (suc (length text)) (let l = longestHead-le ps text in omega arith)
+    (λ j a b s. longestHead-none ps text j a (omega arith) (and-split (leb q j) (headSuffix ps text j) s .1)))
 
--- ONE STEP of the automaton, from the head of the text's longest suffix that has one
-pub advance-is : (ps : PatternSet) (text : List ℤ) (x : ℤ) (d : ℕ) → T (goodSet ps) → 0 < length ps
+-- ONE STEP of the automaton by a sample, from the head of the text's longest suffix that has one
+pub advance-is : (ps : PatternSet) (text : List ℤ) (x : ℤ) (d : ℕ) → isGap x ≡ false → T (goodSet ps) → 0 < length ps
     → ((m : ℕ) → m ≤ longestHead ps text → cut m d ≡ cut m (distanceAt (text ++ (x ∷ [])) (length text)))
     → advance ps (distances (lastOf (longestHead ps text) text)) d ≡
     (distances (lastOf (suc (longestExtended ps text x)) (text ++ (x ∷ []))), attempts ps text x)
-advance-is ps text x d g z c =
+advance-is ps text x d o g z c =
     let n = longestHead ps text in
     let q = longestExtended ps text x in
     let h = longestHead-le ps text in
     let l : length (distances (lastOf n text)) ≡ n = length-distances (lastOf n text) ∙ length-lastOf n text h in
-    advance-within ps text x d q g z (longestExtended-passes ps text x g z) (length (distances (lastOf n text))) n (omega arith) h
-    (longestExtended-le ps text x g z) (longestHead-head ps text z)
+    advance-within ps text x d q o g z (longestExtended-passes ps text x o g z) (length (distances (lastOf n text))) n (omega arith) h
+    (longestExtended-le ps text x o g z) (longestHead-head ps text z)
     (λ j a b. longestExtended-none ps text x j a (omega arith)) c
-    ∙ ap₂ (λ (r : List ℕ) (a : ℕ). (r, a)) (ap distances (sym (lastOf-snoc q text x (longestExtended-short ps text x)))) (sym (attempts-tried ps text x))
+    ∙ ap₂ (λ (r : List ℕ) (a : ℕ). (r, a)) (ap distances (sym (lastOf-snoc q text x (longestExtended-short ps text x)))) (sym (attempts-tried ps text x o))

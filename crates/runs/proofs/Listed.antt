@@ -10,34 +10,37 @@ use Rattle.lists.proofs.Tables.{tabulate-ext}
 use Rattle.lists.proofs.Tests.{test-ext, T-true}
 use Rattle.lists.proofs.Same.{same-eq, eq-same}
 use Rattle.lists.proofs.Parts.{lastOf-zero}
+use Rattle.gaps.specs.Gaps.{isGap, holdsGap}
+use Rattle.gaps.proofs.Laws.{empty-none}
 use Rattle.cartesian.specs.Cartesian.{distances}
 use Rattle.realization.specs.Realization.{realizable}
 use Rattle.pattern_set.specs.PatternSet.{PatternSet, goodSet}
 use Rattle.matching.specs.Matching.{hasTree, numbersFrom, endHits, lastHits, headTree}
 use Rattle.matching.specs.HeadLengths.{headLengths}
-use Rattle.matching.proofs.Heads.{hasTree-iff, chain-is}
+use Rattle.matching.proofs.Heads.{hasTree-iff, headTree-whole, chain-is}
 use Rattle.matching.proofs.Sizes.{hasTree-length}
 use Rattle.automaton_model.specs.Automaton.{endingAt, listed}
 use Rattle.pattern_set.proofs.Good.{good-pattern}
 use Rattle.matching.proofs.Numbers.{select-numbers}
 use Rattle.runs.specs.ReferenceRun.{longestHead}
+use Rattle.runs.proofs.Suffixes.{gap-suffix}
 use Rattle.runs.proofs.LongestHead.{longestHead-le, longestHead-head, longestHead-none}
 
 -- ---- the patterns that end at one head
 
--- a realizable list is a window's distances exactly if the window has its tree
-same-hasTree : (p : List ℕ) (window : List ℤ) → T (realizable p) → same p (distances window) ≡ hasTree window p
-same-hasTree p w r =
+-- a realizable list is the distances of a window without a gap exactly if the window has its tree
+same-hasTree : (p : List ℕ) (window : List ℤ) → holdsGap window ≡ false → T (realizable p) → same p (distances window) ≡ hasTree window p
+same-hasTree p w o r =
     test-ext (same p (distances w)) (hasTree w p)
-    (λ t. hasTree-iff w p r .1 (sym (same-eq p (distances w) t)))
-    (λ t. eq-same p (distances w) (sym (hasTree-iff w p r .0 t)))
+    (λ t. hasTree-iff w p o r .1 (sym (same-eq p (distances w) t)))
+    (λ t. eq-same p (distances w) (sym (hasTree-iff w p o r .0 t)))
 
--- the patterns that end at the head of a window are those that have its tree
-pub endingAt-is : (ps : PatternSet) (window : List ℤ) → T (goodSet ps) → endingAt ps (distances window) ≡ numbersFrom 0 window ps
-endingAt-is ps w g =
+-- the patterns that end at the head of a window without a gap are those that have its tree
+pub endingAt-is : (ps : PatternSet) (window : List ℤ) → holdsGap window ≡ false → T (goodSet ps) → endingAt ps (distances window) ≡ numbersFrom 0 window ps
+endingAt-is ps w o g =
     let test : ℕ → Bool = λ j. same (getD ps j []) (distances w) in
     ap (select test) (tabulate-ext (length ps) (λ j. j) (λ j. 0 + j) (λ j l. sym (zero-add j)))
-    ∙ select-numbers test w 0 ps (λ k l. ap test (zero-add k) ∙ same-hasTree (getD ps k []) w (good-pattern ps (getD ps k []) g (getD-mem ps k [] l) .2))
+    ∙ select-numbers test w 0 ps (λ k l. ap test (zero-add k) ∙ same-hasTree (getD ps k []) w o (good-pattern ps (getD ps k []) g (getD-mem ps k [] l) .2))
 
 -- ---- the patterns that have the tree of one window
 
@@ -73,7 +76,7 @@ listed-lengths : (ps : PatternSet) (text : List ℤ) (n : ℕ) → T (goodSet ps
 unfolding headLengths endHits flatten
 listed-lengths ps text zero g =
     append-nil (endingAt ps (distances (lastOf 0 text)))
-    ∙ endingAt-is ps (lastOf 0 text) g
+    ∙ endingAt-is ps (lastOf 0 text) (ap holdsGap (lastOf-zero text) ∙ empty-none) g
     ∙ ap (λ (w : List ℤ). numbersFrom 0 w ps) (lastOf-zero text)
     ∙ numbers-empty ps g
 listed-lengths ps text (suc n) g = go (headTree ps (lastOf (suc n) text)) refl (listed-lengths ps text n g)
@@ -82,7 +85,9 @@ listed-lengths ps text (suc n) g = go (headTree ps (lastOf (suc n) text)) refl (
         → flatten (map (endingAt ps) (map (λ m. distances (lastOf m text)) (headLengths ps text n))) ≡ endHits ps text n
         → flatten (map (endingAt ps) (map (λ m. distances (lastOf m text)) (cond b (suc n ∷ headLengths ps text n) (headLengths ps text n))))
         ≡ numbersFrom 0 (lastOf (suc n) text) ps ++ endHits ps text n
-    go true e ih = ap₂ (λ (a b : List ℕ). a ++ b) (endingAt-is ps (lastOf (suc n) text) g) ih
+    go true e ih =
+        let whole = headTree-whole ps (lastOf (suc n) text) (T-true (headTree ps (lastOf (suc n) text)) e) in
+        ap₂ (λ (a b : List ℕ). a ++ b) (endingAt-is ps (lastOf (suc n) text) whole g) ih
     go false e ih = ih ∙ ap (λ (l : List ℕ). l ++ endHits ps text n) (sym (numbers-no-head ps (lastOf (suc n) text) (λ t. subst T e t)))
 
 -- suffixes without the tree of a head give no hits
@@ -110,3 +115,8 @@ listed-is ps text g z =
     ap (λ (c : List (List ℕ)). flatten (map (endingAt ps) c)) (chain-is ps text n z h (longestHead-head ps text z))
     ∙ listed-lengths ps text n g
     ∙ sym (endHits-above ps text n (length text) h (longestHead-none ps text))
+
+-- none has a hit at a gap
+pub gap-hits : (ps : PatternSet) (text : List ℤ) (x : ℤ) → isGap x ≡ true → lastHits ps (text ++ (x ∷ [])) ≡ []
+unfolding endHits
+gap-hits ps text x o = endHits-above ps (text ++ (x ∷ [])) 0 (length (text ++ (x ∷ []))) (omega arith) (gap-suffix ps text x o)

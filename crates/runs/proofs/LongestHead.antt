@@ -1,17 +1,19 @@
 -- The longest suffix of a text that has the tree of some head, and the longest one that has it also
 -- with the next value behind it: the latter, with that value, is the longest such suffix of the
 -- longer text.
-use Rattle.lists.proofs.Prelude.{_≡_, sym, subst, Bool, _&&_, List, [], _∷_, _++_, ℕ, zero, suc, _≤_, _<_, ℤ, T, length, take, length-take, arith, lastOf}
+use Rattle.lists.proofs.Prelude.{_≡_, sym, subst, Bool, true, false, _&&_, List, [], _∷_, _++_, ℕ, zero, suc, _≤_, _<_, ℤ, T, length, take, length-take}
+use Rattle.lists.proofs.Prelude.{arith, lastOf}
 use Rattle.lists.proofs.Tests.{and-split, and-join}
 use Rattle.lists.proofs.Members.{any-mem}
 use Rattle.lists.proofs.Parts.{lastOf-snoc, length-snoc}
 use Rattle.lists.proofs.LastBelow.{greatest-le, greatest-passes, greatest-none, greatest-is, greatest-most}
+use Rattle.gaps.specs.Gaps.{isGap}
 use Rattle.pattern_set.specs.PatternSet.{PatternSet, goodSet}
 use Rattle.matching.specs.Matching.{hasTree, headTree}
 use Rattle.matching.proofs.Sizes.{hasTree-length}
 use Rattle.pattern_set.proofs.Good.{good-pattern}
 use Rattle.runs.specs.ReferenceRun.{longestExtended, longestHead}
-use Rattle.runs.proofs.Suffixes.{headTree-shorter, empty-suffix, one-suffix}
+use Rattle.runs.proofs.Suffixes.{headTree-shorter, empty-suffix, one-suffix, gap-suffix}
 
 -- has the suffix of m values the tree of some head
 abbrev pub headSuffix : PatternSet → List ℤ → ℕ → Bool
@@ -46,41 +48,49 @@ headTree-length ps w g t =
     let b = good-pattern ps (r .0) g (r .1) in
     omega (arith, e, l, b .1)
 
--- ---- the longest one that has it also with the value behind it
+-- ---- the longest one that has it also with a sample behind it
 
 pub longestExtended-short : (ps : PatternSet) (text : List ℤ) (x : ℤ) → longestExtended ps text x ≤ length text
 unfolding longestExtended
 longestExtended-short ps text x = greatest-le (extendedSuffix ps text x) (length text)
 
-pub longestExtended-passes : (ps : PatternSet) (text : List ℤ) (x : ℤ) → T (goodSet ps) → 0 < length ps
+pub longestExtended-passes : (ps : PatternSet) (text : List ℤ) (x : ℤ) → isGap x ≡ false → T (goodSet ps) → 0 < length ps
     → T (extendedSuffix ps text x (longestExtended ps text x))
 unfolding longestExtended
-longestExtended-passes ps text x g z =
+longestExtended-passes ps text x o g z =
     greatest-passes (extendedSuffix ps text x) (length text)
-    (and-join (headTree ps (lastOf 0 text)) (headTree ps (lastOf 0 text ++ (x ∷ []))) (empty-suffix ps text z) (one-suffix ps text x g z))
+    (and-join (headTree ps (lastOf 0 text)) (headTree ps (lastOf 0 text ++ (x ∷ []))) (empty-suffix ps text z) (one-suffix ps text x o g z))
 
 pub longestExtended-none : (ps : PatternSet) (text : List ℤ) (x : ℤ) (j : ℕ) → longestExtended ps text x < j → j ≤ length text
     → T (extendedSuffix ps text x j) → ⊥
 unfolding longestExtended
 longestExtended-none ps text x j = greatest-none (extendedSuffix ps text x) (length text) j
 
-pub longestExtended-le : (ps : PatternSet) (text : List ℤ) (x : ℤ) → T (goodSet ps) → 0 < length ps → longestExtended ps text x ≤ longestHead ps text
+pub longestExtended-le : (ps : PatternSet) (text : List ℤ) (x : ℤ) → isGap x ≡ false → T (goodSet ps) → 0 < length ps
+    → longestExtended ps text x ≤ longestHead ps text
 unfolding longestHead
-longestExtended-le ps text x g z =
+longestExtended-le ps text x o g z =
     let q = longestExtended ps text x in
     greatest-most (headSuffix ps text) (length text) q (longestExtended-short ps text x)
-    (and-split (headTree ps (lastOf q text)) (headTree ps (lastOf q text ++ (x ∷ []))) (longestExtended-passes ps text x g z) .0)
+    (and-split (headTree ps (lastOf q text)) (headTree ps (lastOf q text ++ (x ∷ []))) (longestExtended-passes ps text x o g z) .0)
 
 -- ---- one more value
 
-pub longestHead-step : (ps : PatternSet) (text : List ℤ) (x : ℤ) → T (goodSet ps) → 0 < length ps
+-- a gap
+pub longestHead-gap : (ps : PatternSet) (text : List ℤ) (x : ℤ) → isGap x ≡ true → 0 < length ps → longestHead ps (text ++ (x ∷ [])) ≡ 0
+unfolding longestHead
+longestHead-gap ps text x o z =
+    greatest-is (headSuffix ps (text ++ (x ∷ []))) (length (text ++ (x ∷ []))) 0 (omega arith) (empty-suffix ps (text ++ (x ∷ [])) z) (gap-suffix ps text x o)
+
+-- a sample
+pub longestHead-step : (ps : PatternSet) (text : List ℤ) (x : ℤ) → isGap x ≡ false → T (goodSet ps) → 0 < length ps
     → longestHead ps (text ++ (x ∷ [])) ≡ suc (longestExtended ps text x)
 unfolding longestHead
-longestHead-step ps text x g z =
+longestHead-step ps text x o g z =
     let q = longestExtended ps text x in
     let l = length-snoc text x in
     let b = longestExtended-short ps text x in
-    let t = and-split (headTree ps (lastOf q text)) (headTree ps (lastOf q text ++ (x ∷ []))) (longestExtended-passes ps text x g z) .1 in
+    let t = and-split (headTree ps (lastOf q text)) (headTree ps (lastOf q text ++ (x ∷ []))) (longestExtended-passes ps text x o g z) .1 in
     greatest-is (headSuffix ps (text ++ (x ∷ []))) (length (text ++ (x ∷ []))) (suc q) (omega arith)
     (subst (λ (w : List ℤ). T (headTree ps w)) (sym (lastOf-snoc q text x b)) t)
     (λ j a h. above j a (omega arith))

@@ -1,30 +1,31 @@
 -- The suffixes of a text with one more value: which of them have the tree of some head, and their
 -- distances, of which only the last one is new.
-use Rattle.lists.proofs.Prelude.{_≡_, _∙_, ap, sym, refl, subst, ap₂, List, [], _∷_, _++_, List·Memᴰ·head, ℕ, suc, _+_, _-_, _≤_, _<_, ℤ, T, length, take}
-use Rattle.lists.proofs.Prelude.{take-suc, take-all, take-append-seam, drop-append-le, arith, lastOf, any}
-use Rattle.lists.proofs.Parts.{length-lastOf, lastOf-zero, length-snoc}
+use Rattle.lists.proofs.Prelude.{_≡_, _∙_, ap, sym, refl, subst, ap₂, true, false, List, [], _∷_, _++_, List·Memᴰ·head, ℕ, zero, suc, _+_, _-_, _≤_, _<_, ℤ}
+use Rattle.lists.proofs.Prelude.{T, length, take, take-suc, take-all, take-append-seam, drop-append-le, arith, lastOf, any}
+use Rattle.lists.proofs.Parts.{length-lastOf, lastOf-zero, lastOf-snoc, length-snoc}
+use Rattle.lists.proofs.Tests.{clash}
+use Rattle.gaps.specs.Gaps.{isGap, holdsGap}
+use Rattle.gaps.proofs.Laws.{front-none, snoc-gap}
 use Rattle.cartesian.specs.Cartesian.{leftmostFrom, leftmost, treeWithin, tree, sameTree, distanceAt, distances, cut, treeOfWithin, treeOf}
 use Rattle.cartesian.proofs.Seek.{length-distances, getD-distances, distanceAt-drop}
 use Rattle.cartesian.proofs.ByList.{distances-take}
 use Rattle.pattern_set.specs.PatternSet.{PatternSet, goodSet}
 use Rattle.matching.specs.Matching.{hasTree, isHead, headTree}
-use Rattle.matching.proofs.Heads.{headTree-isHead, head-shorter, empty-headTree}
+use Rattle.matching.proofs.Heads.{headTree-whole, headTree-isHead, head-shorter, empty-headTree}
 use Rattle.automaton_model.specs.Automaton.{extended}
 use Rattle.pattern_set.proofs.Good.{good-pattern, good-realizable}
 
--- ---- the patterns of a good set
-
 -- ---- heads
 
--- one value has the tree of the head of one value of any pattern
-pub one-headTree : (ps : PatternSet) (x : ℤ) → T (goodSet ps) → 0 < length ps → T (headTree ps (x ∷ []))
+-- one sample has the tree of the head of one value of any pattern
+pub one-headTree : (ps : PatternSet) (x : ℤ) → isGap x ≡ false → T (goodSet ps) → 0 < length ps → T (headTree ps (x ∷ []))
 unfolding headTree hasTree any sameTree tree treeWithin leftmost leftmostFrom treeOf treeOfWithin
-one-headTree [] x g z = absurd (let y : ⊥ = omega arith in y)
-one-headTree (p ∷ ps) x g z = go p (good-pattern (p ∷ ps) p g (List·Memᴰ·head refl) .0)
+one-headTree [] x o g z = absurd (let y : ⊥ = omega arith in y)
+one-headTree (p ∷ ps) x o g z = go p (good-pattern (p ∷ ps) p g (List·Memᴰ·head refl) .0)
   where
     go : (p : List ℕ) → 1 ≤ length p → T (headTree (p ∷ ps) (x ∷ []))
     go [] h = absurd (let y : ⊥ = omega arith in y)
-    go (d ∷ ds) h = tt
+    go (d ∷ ds) h = rw o tt
 
 -- what has the tree of a head has it without its last value
 pub headTree-shorter : (ps : PatternSet) (w : List ℤ) (x : ℤ) → T (goodSet ps) → T (headTree ps (w ++ (x ∷ []))) → T (headTree ps w)
@@ -32,17 +33,26 @@ headTree-shorter ps w x g t =
     let r = good-realizable ps g in
     let e : take (length w) (distances (w ++ (x ∷ []))) ≡ distances w = sym (distances-take (length w) (w ++ (x ∷ []))) ∙ ap distances
     (take-append-seam w (x ∷ [])) in
-    let h = head-shorter ps (distances (w ++ (x ∷ []))) (length w) (subst T (headTree-isHead ps (w ++ (x ∷ [])) r) t) in
-    subst T (sym (headTree-isHead ps w r)) (subst (λ (l : List ℕ). T (isHead ps l)) e h)
+    let o = headTree-whole ps (w ++ (x ∷ [])) t in
+    let h = head-shorter ps (distances (w ++ (x ∷ []))) (length w) (subst T (headTree-isHead ps (w ++ (x ∷ [])) o r) t) in
+    subst T (sym (headTree-isHead ps w (front-none w (x ∷ []) o) r)) (subst (λ (l : List ℕ). T (isHead ps l)) e h)
 
 -- the empty suffix
 pub empty-suffix : (ps : PatternSet) (text : List ℤ) → 0 < length ps → T (headTree ps (lastOf 0 text))
 empty-suffix ps text z = subst (λ (w : List ℤ). T (headTree ps w)) (sym (lastOf-zero text)) (empty-headTree ps z)
 
--- the empty suffix with a value behind it
-pub one-suffix : (ps : PatternSet) (text : List ℤ) (x : ℤ) → T (goodSet ps) → 0 < length ps → T (headTree ps (lastOf 0 text ++ (x ∷ [])))
-one-suffix ps text x g z =
-    subst (λ (w : List ℤ). T (headTree ps (w ++ (x ∷ [])))) (sym (lastOf-zero text)) (one-headTree ps x g z)
+-- the empty suffix with a sample behind it
+pub one-suffix : (ps : PatternSet) (text : List ℤ) (x : ℤ) → isGap x ≡ false → T (goodSet ps) → 0 < length ps → T (headTree ps (lastOf 0 text ++ (x ∷ [])))
+one-suffix ps text x o g z =
+    subst (λ (w : List ℤ). T (headTree ps (w ++ (x ∷ [])))) (sym (lastOf-zero text)) (one-headTree ps x o g z)
+
+-- behind a gap no suffix but the empty one has the tree of a head
+pub gap-suffix : (ps : PatternSet) (text : List ℤ) (x : ℤ) → isGap x ≡ true → (j : ℕ) → 0 < j → j ≤ length (text ++ (x ∷ []))
+    → T (headTree ps (lastOf j (text ++ (x ∷ [])))) → ⊥
+gap-suffix ps text x o zero h l t = absurd (let y : ⊥ = omega arith in y)
+gap-suffix ps text x o (suc j) h l t =
+    let n : j ≤ length text = omega (arith, length-snoc text x) in
+    clash (snoc-gap (lastOf j text) x o) (ap holdsGap (sym (lastOf-snoc j text x n)) ∙ headTree-whole ps (lastOf (suc j) (text ++ (x ∷ []))) t)
 
 -- ---- distances
 

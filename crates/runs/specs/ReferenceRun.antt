@@ -1,9 +1,10 @@
 -- The reference run of a list of stream search calls: what document 01's run book says of them,
 -- from the text alone and by trees of windows. It shares no rule with the search. The automaton's
 -- words stand in refusal 7 and nowhere else. Document 01: A run of ladder searches; Run book;
--- Trials.
+-- Trials. Document 02, 2.2.
 use Rattle.lists.specs.Prelude.{Bool, cond, not, _&&_, _||_, Option, none, some, List, [], _∷_, _++_, ℕ, suc, pred, _+_, _-_, _*_, eqb, leb, ltb, ℤ, pos, leZ}
 use Rattle.lists.specs.Prelude.{length, getD, drop, tabulate, lastBelow, lastOf, all, select, begins}
+use Rattle.gaps.specs.Gaps.{isGap, holdsGap}
 use Rattle.pattern_set.specs.PatternSet.{PatternSet, setWords}
 use Rattle.matching.specs.Matching.{lastHits, hits, hitWords, headTree}
 use Rattle.automaton_model.specs.Automaton.{automatonWords}
@@ -30,9 +31,11 @@ pub record Seen : Type 0 where
 unfoldable pub longestExtended : PatternSet → List ℤ → ℤ → ℕ
 longestExtended ps text x = pred (lastBelow (λ n. headTree ps (lastOf n text) && headTree ps (lastOf n text ++ (x ∷ []))) (suc (length text)))
 
--- one for it and for every longer suffix that has the tree of some head
+-- one for it and for every longer suffix that has the tree of some head; a gap makes none
 unfoldable pub attempts : PatternSet → List ℤ → ℤ → ℕ
-attempts ps text x = length (select (λ n. leb (longestExtended ps text x) n && headTree ps (lastOf n text)) (tabulate (suc (length text)) (λ n. n)))
+attempts ps text x =
+    cond (isGap x) 0
+    (length (select (λ n. leb (longestExtended ps text x) n && headTree ps (lastOf n text)) (tabulate (suc (length text)) (λ n. n))))
 
 -- of values that go to the end of the text one after the other
 unfoldable pub attemptsOn : PatternSet → List ℤ → List ℤ → ℕ
@@ -98,9 +101,9 @@ taken ps text (c ∷ cs) = taken ps (text ++ added ps text c) cs
 unfoldable pub longestHead : PatternSet → List ℤ → ℕ
 longestHead ps text = pred (lastBelow (λ m. headTree ps (lastOf m text)) (suc (length text)))
 
--- no later value is smaller
+-- no value from place i on is a gap, and no later one is smaller
 unfoldable pub isOpen : List ℤ → ℕ → Bool
-isOpen text i = all (λ j. leb j i || leZ (getD text i (pos 0)) (getD text j (pos 0))) (tabulate (length text) (λ j. j))
+isOpen text i = not (holdsGap (drop i text)) && all (λ j. leb j i || leZ (getD text i (pos 0)) (getD text j (pos 0))) (tabulate (length text) (λ j. j))
 
 -- the open minima among the last 256
 unfoldable pub openPlaces : List ℤ → List ℕ

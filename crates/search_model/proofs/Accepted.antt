@@ -1,11 +1,12 @@
 -- ACCEPTED STATES: what is known of one, and the check's tests, in their order, which decide
 -- whether a state is good.
 use Rattle.lists.proofs.Prelude.{_≡_, _∙_, ap, sym, refl, Bool, true, false, _&&_, _||_, _≤_, _<_, T, eqb, leb, ltb, leb→le, ltb→lt, length, le-leb, lt-leb}
-use Rattle.lists.proofs.Prelude.{lt-ltb, le-ltb}
+use Rattle.lists.proofs.Prelude.{lt-ltb, le-ltb, eq-eqb, ne-eqb, decLt, arith}
 use Rattle.lists.proofs.Tests.{T-true, true-T, and-split, and-true, and-false}
 use Rattle.answers.specs.declared.SearchState.{SearchState}
-use Rattle.pattern_set.specs.PatternSet.{PatternSet}
+use Rattle.pattern_set.specs.PatternSet.{PatternSet, goodSet}
 use Rattle.automaton_model.specs.Automaton.{nodes, headOf}
+use Rattle.automaton_model.proofs.Nodes.{node-longer}
 use Rattle.search_model.specs.Ring.{goodRing}
 use Rattle.search_model.specs.Search.{ringOf, goodState}
 
@@ -15,7 +16,7 @@ pub record Accepted (ps : PatternSet) (st : SearchState) : Type 0 where
   pub depth : length (headOf ps (st .node)) ≤ st .taken
   pub taken : st .taken ≤ 1048576
   pub ring : goodRing (st .taken) (ringOf st) ≡ true
-  pub some : T (ltb 0 (st .minima) || eqb (st .taken) 0)
+  pub some : T (ltb 0 (st .minima) || eqb (st .node) 0)
 
 module _ (ps : PatternSet) (st : SearchState) where
   pub accepted : goodState ps st ≡ true → Accepted ps st
@@ -25,7 +26,7 @@ module _ (ps : PatternSet) (st : SearchState) where
       let deep = leb (length (headOf ps (st .node))) (st .taken) in
       let few = leb (st .taken) 1048576 in
       let ring = goodRing (st .taken) (ringOf st) in
-      let all = and-split (node && deep && few && ring) (ltb 0 (st .minima) || eqb (st .taken) 0) (T-true (goodState ps st) e) in
+      let all = and-split (node && deep && few && ring) (ltb 0 (st .minima) || eqb (st .node) 0) (T-true (goodState ps st) e) in
       let a = and-split (node && deep && few) ring (all .0) in
       let b = and-split (node && deep) few (a .0) in
       let c = and-split node deep (b .0) in
@@ -54,8 +55,8 @@ module _ (ps : PatternSet) (st : SearchState) where
   unfolding goodState
   state-long h d l = rw (lt-ltb (st .node) (length (nodes ps)) h, le-leb (length (headOf ps (st .node))) (st .taken) d, lt-leb (st .taken) 1048576 l) refl
 
-  -- something is taken, and no minimum is open
-  pub state-empty : ltb 0 (st .minima) || eqb (st .taken) 0 ≡ false → false ≡ goodState ps st
+  -- its node is not 0, and no minimum is open
+  pub state-empty : ltb 0 (st .minima) || eqb (st .node) 0 ≡ false → false ≡ goodState ps st
   unfolding goodState
   state-empty e = sym (ap (λ (b : Bool). rest && b) e ∙ and-false rest)
     where
@@ -68,9 +69,28 @@ module _ (ps : PatternSet) (st : SearchState) where
 
   -- the open minima decide
   pub state-minima : st .node < length (nodes ps) → length (headOf ps (st .node)) ≤ st .taken → st .taken ≤ 1048576
-      → ltb 0 (st .minima) || eqb (st .taken) 0 ≡ true
+      → ltb 0 (st .minima) || eqb (st .node) 0 ≡ true
       → goodRing (st .taken) (ringOf st) ≡ goodState ps st
   unfolding goodState
   state-minima h d l e =
       rw (lt-ltb (st .node) (length (nodes ps)) h, le-leb (length (headOf ps (st .node))) (st .taken) d, le-leb (st .taken) 1048576 l, e)
       (sym (and-true (goodRing (st .taken) (ringOf st))))
+
+-- ---- the words of documents 01 and 02
+
+-- a state with values taken may have no open minimum only at node 0, and one with none taken may:
+-- its node is 0, since no other is of depth 0
+pub minimum-rule : (ps : PatternSet) (st : SearchState) → T (goodSet ps) → 0 < length ps → st .node < length (nodes ps)
+    → length (headOf ps (st .node)) ≤ st .taken
+    → ltb 0 (st .minima) || eqb (st .node) 0 ≡ ltb 0 (st .minima) || (eqb (st .taken) 0 || eqb (st .node) 0)
+minimum-rule ps st g z h d = ap (λ (b : Bool). ltb 0 (st .minima) || b) (go (decLt 0 (st .taken)))
+  where
+    root : st .taken ≤ 0 → Dec (0 < st .node) → st .node ≡ 0
+    root l (yes p) = absurd (let y : ⊥ = omega (arith, d, node-longer ps g z (st .node) p h) in y)
+    root l (no f) = omega arith
+
+    go : Dec (0 < st .taken) → eqb (st .node) 0 ≡ eqb (st .taken) 0 || eqb (st .node) 0
+    go (yes p) = rw (ne-eqb (st .taken) 0 (λ e. let y : ⊥ = omega arith in y)) refl
+    go (no f) =
+        let n = root (omega arith) (decLt 0 (st .node)) in
+        rw (eq-eqb (st .taken) 0 (omega arith)) (eq-eqb (st .node) 0 n)

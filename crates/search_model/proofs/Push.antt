@@ -6,7 +6,7 @@ use Rattle.lists.proofs.Prelude.{lt→ltb, length, length-set, getD, getD-set-s
 use Rattle.lists.proofs.Tests.{and-split, and-join, T-true}
 use Rattle.lists.proofs.LastBelow.{lastBelow-passes}
 use Rattle.lists.proofs.Rising.{rising-count}
-use Rattle.search_model.specs.Ring.{Ring, slot, placeAt, valueAt, goodRing, isOld, aged, pushed, kept}
+use Rattle.search_model.specs.Ring.{Ring, slot, placeAt, valueAt, goodRing, isOld, aged, pushed, cleared, kept}
 use Rattle.search_model.proofs.Minima.{Good}
 use Rattle.search_model.proofs.Ring.{without, put, slot-lt, slots-differ, aged-without, aged-places, aged-values, slot-next, kept-le, pushed-put}
 use Rattle.search_model.proofs.Good.{good, is-good, good-below}
@@ -132,6 +132,18 @@ good-pushed taken r x p v g =
 pub pushed-good : (taken : ℕ) (r : Ring) (x : ℤ) → length (r .places) ≡ 256 → length (r .values) ≡ 256 → goodRing taken r ≡ true
     → goodRing (taken + 1) (pushed taken r x) ≡ true
 pushed-good taken r x p v e = is-good (taken + 1) (pushed taken r x) (good-pushed taken r x p v (good taken r e))
+
+-- without open minima a ring is good
+pub cleared-good : (taken : ℕ) (r : Ring) → goodRing taken (cleared r) ≡ true
+cleared-good taken r = is-good taken (cleared r) (record {
+  rises = λ i h. absurd (none (suc i) h);
+  recent = λ i h. absurd (none i h);
+  ends = λ i h. absurd (let z : ⊥ = omega arith in z);
+  climbs = λ i h. absurd (none (suc i) h);
+})
+  where
+    none : (i : ℕ) → i < 0 → ⊥
+    none i h = omega arith
 
 pub pushed-places : (taken : ℕ) (r : Ring) (x : ℤ) → length (pushed taken r x .places) ≡ length (r .places)
 unfolding pushed

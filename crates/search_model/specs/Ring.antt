@@ -1,5 +1,5 @@
 -- The ring of open minima: what it means, when it is accepted, and how a value is pushed. Document
--- 01: A search state; refusal 8.
+-- 01: A search state; refusal 8. Document 02, 2.2.
 use Rattle.lists.specs.Prelude.{Bool, cond, _&&_, _||_, List, ℕ, zero, suc, pred, _+_, _-_, _%_, eqb, leb, ltb, ℤ, pos, leZ, getD, set, tabulate, lastBelow}
 use Rattle.lists.specs.Prelude.{all}
 
@@ -61,3 +61,7 @@ pushed taken r x =
     let a = aged taken r in
     let n = kept a x in
     record { minima = n + 1; first = a .first; places = set (a .places) (slot a n) taken; values = set (a .values) (slot a n) x }
+
+-- the ring without open minima
+abbrev pub cleared : Ring → Ring
+cleared r = record { minima = 0; first = r .first; places = r .places; values = r .values }

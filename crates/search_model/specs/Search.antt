@@ -1,10 +1,11 @@
 -- The state of a stream search: when it is accepted, one step and one call from any accepted state.
--- Document 01: A search state; refusal 8; Step; A ladder search.
+-- Document 01: A search state; refusal 8; Step; A ladder search. Document 02, 2.2.
 use Rattle.lists.specs.Prelude.{Bool, cond, _&&_, _||_, List, [], _∷_, _++_, map, ℕ, suc, _+_, _-_, _*_, eqb, leb, ltb, ℤ, length}
+use Rattle.gaps.specs.Gaps.{isGap}
 use Rattle.answers.specs.declared.SearchState.{SearchState}
 use Rattle.pattern_set.specs.PatternSet.{PatternSet}
 use Rattle.automaton_model.specs.Automaton.{nodes, headOf, nodeOf, advance, listed}
-use Rattle.search_model.specs.Ring.{Ring, goodRing, distanceOf, pushed}
+use Rattle.search_model.specs.Ring.{Ring, goodRing, distanceOf, pushed, cleared}
 
 -- the ring of a state, and the state of a ring
 abbrev pub ringOf : SearchState → Ring
@@ -13,12 +14,12 @@ ringOf st = record { minima = st .minima; first = st .first; places = st .places
 abbrev pub stateOf : ℕ → ℕ → Ring → SearchState
 stateOf taken node r = record { taken = taken; node = node; minima = r .minima; first = r .first; places = r .places; values = r .values }
 
--- a node of the automaton, not deeper than the values taken, and a good ring; with something taken
--- some minimum is open
+-- a node of the automaton, not deeper than the values taken, and a good ring; at a node other than
+-- 0 some minimum is open
 unfoldable pub goodState : PatternSet → SearchState → Bool
 goodState ps st =
     ltb (st .node) (length (nodes ps)) && leb (length (headOf ps (st .node))) (st .taken) && leb (st .taken) 1048576
-    && goodRing (st .taken) (ringOf st) && (ltb 0 (st .minima) || eqb (st .taken) 0)
+    && goodRing (st .taken) (ringOf st) && (ltb 0 (st .minima) || eqb (st .node) 0)
 
 -- ---- taking values, by a state of any kind
 
@@ -52,11 +53,19 @@ feed next room s free (x ∷ xs) =
 
 -- ---- the stream search
 
-unfoldable pub step : PatternSet → SearchState → ℤ → Stepped SearchState
-step ps st x =
+-- what a sample does
+unfoldable pub sampled : PatternSet → SearchState → ℤ → Stepped SearchState
+sampled ps st x =
     let r = advance ps (headOf ps (st .node)) (distanceOf (st .taken) (ringOf st) x) in
     let next = stateOf (st .taken + 1) (nodeOf ps (r .0)) (pushed (st .taken) (ringOf st) x) in
     record { state = next; hits = map (λ j. (st .taken, j)) (listed ps (r .0)); attempts = r .1 }
+
+-- what a gap does: it leads to node 0, clears the open minima and makes no attempt
+abbrev pub skipped : SearchState → Stepped SearchState
+skipped st = record { state = stateOf (st .taken + 1) 0 (cleared (ringOf st)); hits = []; attempts = 0 }
+
+unfoldable pub step : PatternSet → SearchState → ℤ → Stepped SearchState
+step ps st x = cond (isGap x) (skipped st) (sampled ps st x)
 
 -- a call with so many words free
 abbrev pub call : PatternSet → SearchState → ℕ → List ℤ → Called SearchState

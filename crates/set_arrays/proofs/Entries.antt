@@ -2,6 +2,7 @@
 use Rattle.lists.proofs.Prelude.{_≡_, _∙_, ap, sym, refl, subst, ap₂, true, false, _||_, List, [], _∷_, _++_, flatten, ℕ, suc, _+_, _≤_, _<_, ℤ, T, leb, ltb}
 use Rattle.lists.proofs.Prelude.{begins, length, getD, drop, length-append, arith, eq-eqb, le-leb, ne-eqb, lt-leb, lt-ltb, le-ltb}
 use Rattle.lists.proofs.Same.{begins-iff}
+use Rattle.gaps.specs.Gaps.{holdsGap}
 use Rattle.cartesian.specs.Cartesian.{distances}
 use Rattle.cartesian.proofs.Seek.{length-distances}
 use Rattle.pattern_set.specs.PatternSet.{PatternSet, setWords, patternsIn, patternsOf, isSet}
@@ -43,13 +44,17 @@ add-empty ws xs h = refused ws xs 0 (rw (eq-eqb (length xs) 0 h) refl)
 pub add-long : (ws : List ℕ) (xs : List ℤ) → (length xs ≡ 0 → ⊥) → 256 < length xs → Refuses ws xs 2
 add-long ws xs z h = refused ws xs 1 (rw (ne-eqb (length xs) 0 z, lt-ltb 256 (length xs) h) refl)
 
-pub add-broken : (ws : List ℕ) (xs : List ℤ) → (length xs ≡ 0 → ⊥) → length xs ≤ 256 → isSet ws ≡ false → Refuses ws xs 5
-add-broken ws xs z h b = refused ws xs 4 (rw (ne-eqb (length xs) 0 z, le-ltb 256 (length xs) h, b) refl)
+pub add-gap : (ws : List ℕ) (xs : List ℤ) → (length xs ≡ 0 → ⊥) → length xs ≤ 256 → holdsGap xs ≡ true → Refuses ws xs 13
+add-gap ws xs z h o = refused ws xs 12 (rw (ne-eqb (length xs) 0 z, le-ltb 256 (length xs) h, o) refl)
+
+pub add-broken : (ws : List ℕ) (xs : List ℤ) → (length xs ≡ 0 → ⊥) → length xs ≤ 256 → holdsGap xs ≡ false → isSet ws ≡ false → Refuses ws xs 5
+add-broken ws xs z h o b = refused ws xs 4 (rw (ne-eqb (length xs) 0 z, le-ltb 256 (length xs) h, o, b) refl)
 
 -- the pattern and the set are in order, and the set has k patterns and n distances
 pub record InOrder (ws : List ℕ) (xs : List ℤ) (k n : ℕ) : Type 0 where
   pub some : length xs ≡ 0 → ⊥
   pub short : length xs ≤ 256
+  pub whole : holdsGap xs ≡ false
   pub good : isSet ws ≡ true
   pub patterns : k ≡ getD ws 0 0
   pub distanceCount : n ≡ getD ws 1 0
@@ -67,7 +72,7 @@ module _ {ws : List ℕ} {xs : List ℤ} {k n : ℕ} (o : InOrder ws xs k n) whe
 
   counts : firstMet (addEntry ws xs .conditions) ≡ left k n
   counts =
-      rw (ne-eqb (length xs) 0 (o .some), le-ltb 256 (length xs) (o .short), o .good, patternsOf-in ws (o .good)) (ap₂ left patterns-in sum-in)
+      rw (ne-eqb (length xs) 0 (o .some), le-ltb 256 (length xs) (o .short), o .whole, o .good, patternsOf-in ws (o .good)) (ap₂ left patterns-in sum-in)
 
   pub add-many : 64 ≤ k → Refuses ws xs 6
   add-many l = refused ws xs 5 (counts ∙ rw (le-leb 64 k l) refl)

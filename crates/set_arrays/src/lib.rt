@@ -47,6 +47,9 @@ pub fn add_pattern(words: &mut [u32], values: &[i32]) -> SetSize
     if m > 256 {
         return SetSize::Refused(Refusal::TooLong);
     }
+    if gaps::hold_gap(values) {
+        return SetSize::Refused(Refusal::HoldsGap);
+    }
     if !rules::is_set(words) {
         return SetSize::Refused(Refusal::BrokenSet);
     }

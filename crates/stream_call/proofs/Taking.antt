@@ -1,20 +1,23 @@
 -- THE CALL, value by value: what is done so far and then the call from the present state are the
 -- whole call. A step adds its hits, its attempts and its value; where no value is left or too few
 -- words are free, nothing is left to do.
-use Rattle.lists.proofs.Prelude.{_≡_, _∙_, ap, sym, refl, subst, ap₂, true, cond, List, [], _∷_, _++_, append-nil, append-assoc, ℕ, suc, _+_, _-_, _*_, _/_}
-use Rattle.lists.proofs.Prelude.{_%_, _≤_, _<_, ℤ, pos, T, leb, length, getD, take, drop, length-append, length-drop, drop-of-length-le, length-map, drop-cons}
-use Rattle.lists.proofs.Prelude.{arith, le-leb, lt-leb, lt-ltb, le-ltb}
+use Rattle.lists.proofs.Prelude.{_≡_, _∙_, ap, sym, refl, subst, ap₂, true, false, cond, List, [], _∷_, _++_, append-nil, append-assoc, ℕ, suc, _+_, _-_, _*_}
+use Rattle.lists.proofs.Prelude.{_/_, _%_, _≤_, _<_, ℤ, pos, T, leb, length, getD, take, drop, length-append, length-drop, drop-of-length-le, length-map}
+use Rattle.lists.proofs.Prelude.{drop-cons, arith, le-leb, lt-leb, lt-ltb, le-ltb}
 use Rattle.lists.proofs.Parts.{paste}
+use Rattle.gaps.specs.Gaps.{isGap}
 use Rattle.answers.specs.declared.SearchState.{SearchState}
 use Rattle.pattern_set.specs.PatternSet.{PatternSet, goodSet}
 use Rattle.matching.specs.Matching.{hitWords}
 use Rattle.automaton_model.specs.Automaton.{nodes, headOf, nodeOf, advance, listed}
-use Rattle.search_model.specs.Search.{ringOf, stateOf, stop, andThen, Called, feed, step, call}
-use Rattle.search_model.specs.Ring.{goodRing, distanceOf}
+use Rattle.search_model.specs.Search.{ringOf, stateOf, Stepped, stop, andThen, Called, feed, sampled, step, call}
+use Rattle.search_model.specs.Ring.{goodRing, distanceOf, cleared}
 use Rattle.open_minima.specs.declared.Pushed.{Pushed}
-use Rattle.open_minima.specs.Parts.{AreCounters, IsPushed}
+use Rattle.open_minima.specs.Parts.{ringFrom, AreCounters, IsPushed}
 use Rattle.search_model.proofs.Good.{good, good-few}
-use Rattle.search_model.proofs.Push.{pushed-good, pushed-places, pushed-values}
+use Rattle.search_model.proofs.Push.{pushed-good, cleared-good, pushed-places, pushed-values}
+use Rattle.search_model.proofs.Feed.{step-gap, step-sample, step-cases}
+use Rattle.automaton_model.proofs.Nodes.{node-root}
 use Rattle.failure_walk.specs.Reached.{Reached}
 use Rattle.stream_step.specs.PlaceWords.{placeWords}
 use Rattle.stream_step.proofs.Listed.{length-listed}
@@ -62,61 +65,86 @@ entered-counters st e h =
 module _ (ps : PatternSet) (g : T (goodSet ps)) (z : 0 < length ps) where
   -- ---- one step
 
-  -- the parts of a step make it
+  -- a gap clears the ring and leaves the arrays as they are
+  pub stepped-gap : (st : SearchState) (x : ℤ) (first next : ℕ) (places : List ℕ) (values : List ℤ) (before : List ℕ)
+      → isGap x ≡ true → ringOf st ≡ ringFrom first next places values → AreCounters (st .taken) first next
+      → IsStepped ps st x places values before before (record { first = first; next = first; node = 0; attempts = 0; hits = 0 })
+  unfolding hitWords
+  stepped-gap st x first next places values before o e k =
+      let s = sym (step-gap ps st x o) in
+      let none : first - first ≡ 0 = omega arith in
+      let ring : ringFrom first first places values ≡ cleared (ringOf st) =
+      (λ i. record { minima = none i; first = first % 256; places = places; values = values }) ∙ ap cleared (sym e) in
+      record {
+        state = ap (stateOf (st .taken + 1) 0) ring ∙ ap (λ (t : Stepped SearchState). t .state) s;
+        counters = record { ordered = omega arith; small = omega (arith, k .ordered, k .small) };
+        attempts = ap (λ (t : Stepped SearchState). t .attempts) s;
+        hits = ap (λ (t : Stepped SearchState). length (t .hits)) s;
+        words = ap (λ (t : Stepped SearchState). hitWords (t .hits) ++ drop (2 * length (t .hits)) before) s;
+      }
+
+  -- the parts of the step of a sample make it
   pub stepped : (st : SearchState) (x : ℤ) (places : List ℕ) (values : List ℤ) (before after : List ℕ) (p : Pushed) (node attempts n : ℕ)
-      → IsPushed (st .taken) (ringOf st) x places values p
+      → isGap x ≡ false → IsPushed (st .taken) (ringOf st) x places values p
       → Reached ps (st .node) (p .distance) node attempts
       → n ≡ length (listed ps (headOf ps node))
       → after ≡ placeWords (st .taken) (listed ps (headOf ps node)) ++ drop (2 * length (listed ps (headOf ps node))) before
       → IsStepped ps st x places values before after (record { first = p .first; next = p .next; node = node; attempts = attempts; hits = n })
-  unfolding step
-  stepped st x places values before after p node attempts n ip r en ew =
+  unfolding sampled
+  stepped st x places values before after p node attempts n o ip r en ew =
+      let s = sym (step-sample ps st x o) in
       let d : p .distance ≡ distanceOf (st .taken) (ringOf st) x = ip .distance in
       let adv : ℕ → List ℕ × ℕ = λ v. advance ps (headOf ps (st .node)) v in
       let w = reached-within ps g z (p .distance) (st .node) node attempts r in
       let h : headOf ps node ≡ adv (distanceOf (st .taken) (ringOf st) x) .0 = w .1 ∙ ap (λ (v : ℕ). adv v .0) d in
       let m : node ≡ nodeOf ps (adv (distanceOf (st .taken) (ringOf st) x) .0) = r .node ∙ ap (λ (v : ℕ). nodeOf ps (adv v .0)) d in
-      let l : length (listed ps (headOf ps node)) ≡ length (step ps st x .hits) = sym
+      let l : length (listed ps (headOf ps node)) ≡ length (sampled ps st x .hits) = sym
       (length-map (listed ps (adv (distanceOf (st .taken) (ringOf st) x) .0)) (λ (j : ℕ). (st .taken, j)) ∙ ap (λ (k : List ℕ). length (listed ps k))
       (sym h)) in
       record {
-        state = ap₂ (stateOf (st .taken + 1)) m (ip .ring);
+        state = ap₂ (stateOf (st .taken + 1)) m (ip .ring) ∙ ap (λ (t : Stepped SearchState). t .state) s;
         counters = ip .counters;
-        attempts = r .attempts ∙ ap (λ (v : ℕ). adv v .1) d;
-        hits = en ∙ l;
-        words = ew ∙ ap₂ (λ (k : List ℕ) (i : ℕ). placeWords (st .taken) (listed ps k) ++ drop (2 * i) before) h l;
+        attempts = r .attempts ∙ ap (λ (v : ℕ). adv v .1) d ∙ ap (λ (t : Stepped SearchState). t .attempts) s;
+        hits = en ∙ l ∙ ap (λ (t : Stepped SearchState). length (t .hits)) s;
+        words =
+            ew ∙ ap₂ (λ (k : List ℕ) (i : ℕ). placeWords (st .taken) (listed ps k) ++ drop (2 * i) before) h l
+            ∙ ap (λ (t : Stepped SearchState). hitWords (t .hits) ++ drop (2 * length (t .hits)) before) s;
       }
 
   -- a step has at most a hit a pattern
   step-hits : (st : SearchState) (x : ℤ) → length (step ps st x .hits) ≤ length ps
-  unfolding step
+  unfolding sampled
   step-hits st x =
       let h = advance ps (headOf ps (st .node)) (distanceOf (st .taken) (ringOf st) x) .0 in
-      omega (arith, length-map {B = ℕ × ℕ} (listed ps h) (λ j. (st .taken, j)), length-listed ps g h)
+      step-cases ps st x (λ s. length (s .hits) ≤ length ps) (λ o. omega arith)
+      (λ o. omega (arith, length-map {B = ℕ × ℕ} (listed ps h) (λ j. (st .taken, j)), length-listed ps g h))
 
   -- and leads to a node, by at most 257 attempts
   step-node : (st : SearchState) (x : ℤ) → st .node < length (nodes ps) → (step ps st x .state .node < length (nodes ps)) × (step ps st x .attempts ≤ 257)
-  unfolding step
+  unfolding sampled
   step-node st x h =
       let d = distanceOf (st .taken) (ringOf st) x in
       let r : Reached ps (st .node) d (nodeOf ps (advance ps (headOf ps (st .node)) d .0)) (advance ps (headOf ps (st .node)) d .1) = record {
         node = refl;
         attempts = refl;
       } in
-      (reached-within ps g z d (st .node) _ _ r .0, attempts-few ps g z d (st .node) _ _ h r)
+      step-cases ps st x (λ s. (s .state .node < length (nodes ps)) × (s .attempts ≤ 257)) (λ o. (node-root ps g z .2, omega arith))
+      (λ o. (reached-within ps g z d (st .node) _ _ r .0, attempts-few ps g z d (st .node) _ _ h r))
 
   step-good : (st : SearchState) (x : ℤ) → length (st .places) ≡ 256 → length (st .values) ≡ 256 → goodRing (st .taken) (ringOf st) ≡ true
       → goodRing (st .taken + 1) (ringOf (step ps st x .state)) ≡ true
-  unfolding step
-  step-good st x p v e = pushed-good (st .taken) (ringOf st) x p v e
+  unfolding sampled
+  step-good st x p v e =
+      step-cases ps st x (λ s. goodRing (st .taken + 1) (ringOf (s .state)) ≡ true) (λ o. cleared-good (st .taken + 1) (ringOf st))
+      (λ o. pushed-good (st .taken) (ringOf st) x p v e)
 
   step-places : (st : SearchState) (x : ℤ) → length (step ps st x .state .places) ≡ length (st .places)
-  unfolding step
-  step-places st x = pushed-places (st .taken) (ringOf st) x
+  unfolding sampled
+  step-places st x = step-cases ps st x (λ s. length (s .state .places) ≡ length (st .places)) (λ o. refl) (λ o. pushed-places (st .taken) (ringOf st) x)
 
   step-values : (st : SearchState) (x : ℤ) → length (step ps st x .state .values) ≡ length (st .values)
-  unfolding step
-  step-values st x = pushed-values (st .taken) (ringOf st) x
+  unfolding sampled
+  step-values st x = step-cases ps st x (λ s. length (s .state .values) ≡ length (st .values)) (λ o. refl) (λ o. pushed-values (st .taken) (ringOf st) x)
 
   -- ---- the call
 

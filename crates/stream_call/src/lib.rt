@@ -1,6 +1,6 @@
 // An accepted call of the stream search: one step, and the values of the call. Document 01: Step; A
-// ladder search. The words of the set lie in `set`, those of its automaton in `automaton`; k is the
-// number of patterns and count that of nodes.
+// ladder search. Document 02, 2.2. The words of the set lie in `set`, those of its automaton in
+// `automaton`; k is the number of patterns and count that of nodes.
 ghost use Rattle.lists.specs.Prelude.{_≡_, true, _+_, _*_, _≤_, _<_, leb, pos, length, getD};
 ghost use Rattle.pattern_set.specs.PatternSet.{patternsOf};
 ghost use Rattle.search_model.specs.Ring.{goodRing};
@@ -29,7 +29,7 @@ pub struct Taken {
 
 // Takes value i of the call as the next one of a search: the places and values of its open minima
 // lie in `places` and `heights`, from the counter `first` on to before the counter `next`, and its
-// hits go to the front of `hits`.
+// hits go to the front of `hits`. A gap leads to node 0 and leaves no minimum open.
 fn step(
     set: &[u32],
     automaton: &[u32],
@@ -51,6 +51,15 @@ fn step(
     ensures { λ r. ⌜ IsStepped (patternsOf (now (set .entry))) (stateFrom taken node first next (now (places .entry)) (now (heights .entry)))
         (getD (now (values .entry)) i (pos 0)) (now (places .exit)) (now (heights .exit)) (now (hits .entry)) (now (hits .exit)) r ⌝ }
 {
+    if gaps::is_gap(values, i) {
+        return Moved {
+            first,
+            next: first,
+            node: 0,
+            attempts: 0,
+            hits: 0,
+        };
+    }
     let p = open_minima::push_minimum(places, heights, first, next, taken, values, i);
     let a = stream_step::advance(set, automaton, k, count, node, p.distance);
     let n = stream_step::write_hits(set, automaton, k, count, a.node, taken, hits);

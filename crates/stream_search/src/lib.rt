@@ -1,5 +1,5 @@
 // The entry of the stream search, and the check of a state that a caller hands in. Document 01: A
-// ladder search; refusals 1 5 7 8 9 10.
+// ladder search; refusals 1 5 7 8 9 10. Document 02, 2.2.
 ghost use Rattle.lists.specs.Prelude.{_≡_, cond, _||_, _*_, eqb, leb, ltb};
 ghost use Rattle.answers.specs.Told.{number, toldStreamed};
 ghost use Rattle.pattern_set.specs.PatternSet.{patternsOf};
@@ -13,19 +13,19 @@ use answers::SetSize;
 use answers::StreamAnswer;
 use answers::Streamed;
 
-// Is a minimum open, or nothing taken.
-fn has_minimum(minima: u32, taken: u32) -> bool
-    ensures { λ r. ⌜ r ≡ ltb 0 minima || eqb taken 0 ⌝ }
+// Is a minimum open, or the node the root.
+fn has_minimum(minima: u32, node: u32) -> bool
+    ensures { λ r. ⌜ r ≡ ltb 0 minima || eqb node 0 ⌝ }
 {
     if minima > 0 {
         return true;
     }
-    taken == 0
+    node == 0
 }
 
 // Is the state one that a search may go on from: its node is in the automaton and not deeper than
-// the values taken, these are not too many, with something taken some minimum is open, and its open
-// minima are good.
+// the values taken, these are not too many, at a node other than the root some minimum is open, and
+// its open minima are good.
 fn state_is_good(set: &[u32], automaton: &[u32], k: usize, count: usize, state: SearchState) -> bool
     requires { ⌜ Whole (now set) (now automaton) k count ⌝ }
     ensures { λ r. ⌜ r ≡ goodState (patternsOf (now (set .entry))) state ⌝ }
@@ -41,7 +41,7 @@ fn state_is_good(set: &[u32], automaton: &[u32], k: usize, count: usize, state: 
     if taken > 1048576 {
         return false;
     }
-    if !has_minimum(state.minima, taken) {
+    if !has_minimum(state.minima, state.node) {
         return false;
     }
     let places = state.places;

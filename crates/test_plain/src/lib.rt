@@ -1,10 +1,60 @@
-// The answers of the searches computed by the definitions of document 01, place by place and window
-// by window. What is read behind the end of an array is 0. A window is given by the place where it
-// begins and the place behind its end.
-ghost use Rattle.lists.specs.Prelude.{_+_, _≤_, _<_, length};
+// The answers of the searches computed by the definitions of documents 01 and 02, place by place
+// and window by window. What is read behind the end of an array is 0. A window is given by the
+// place where it begins and the place behind its end.
+ghost use Rattle.lists.specs.Prelude.{_≡_, true, _+_, _≤_, _<_, length};
 use test_inputs::arrays;
 
 // ---- the text
+
+// Whether the value at place i stands where the recorder had no sample.
+fn is_gap(text: &[i32], i: usize) -> bool {
+    if i >= text.len() {
+        return false;
+    }
+    text[i] == -2147483648
+}
+
+// Whether a gap is in the window, which then has no tree. A window of no values holds none.
+pub fn holds_gap(text: &[i32], from: usize, end: usize) -> bool
+    ensures { λ r. ⌜ (r ≡ true → from < end) ⌝ }
+{
+    let mut i = end;
+    while i > from {
+        i -= 1;
+        if is_gap(text, i) {
+            return true;
+        }
+    }
+    false
+}
+
+// The first place from the given one on that has a gap; the end where there is none.
+pub fn next_gap(text: &[i32], from: usize) -> usize
+    ensures { λ r. ⌜ r ≤ length (now (text .entry)) ⌝ }
+{
+    let mut i = from;
+    while i < text.len() {
+        if is_gap(text, i) {
+            return i;
+        }
+        i += 1;
+    }
+    text.len()
+}
+
+// The first place from the given one on that has a sample; the end where there is none.
+pub fn next_sample(text: &[i32], from: usize) -> usize
+    ensures { λ r. ⌜ r ≤ length (now (text .entry)) ⌝ }
+{
+    let mut i = from;
+    while i < text.len() {
+        if !is_gap(text, i) {
+            return i;
+        }
+        i += 1;
+    }
+    text.len()
+}
 
 // Whether value j is not above value i.
 fn not_above(text: &[i32], j: usize, i: usize) -> bool {
@@ -137,6 +187,9 @@ fn put_if_hit(
     if pattern_length(set, j) != n {
         return at;
     }
+    if holds_gap(text, end - n, end) {
+        return at;
+    }
     if !begins_with(set, j, text, end - n, end) {
         return at;
     }
@@ -249,6 +302,21 @@ fn same_fingerprint(set: &[u32], j: usize, text: &[i32], end: usize, b: usize) -
     true
 }
 
+// Whether pattern j is a candidate before a place: its window lies within the text and holds no gap
+// at all, and their last b values have one fingerprint.
+fn is_candidate(set: &[u32], j: usize, text: &[i32], end: usize, b: usize) -> bool
+    requires { ⌜ b ≤ 17 ⌝ }
+{
+    let n = pattern_length(set, j);
+    if n > end {
+        return false;
+    }
+    if holds_gap(text, end - n, end) {
+        return false;
+    }
+    same_fingerprint(set, j, text, end, b)
+}
+
 // The candidates whose window ends before a place.
 fn candidates_at(set: &[u32], text: &[i32], end: usize, b: usize) -> usize
     requires { ⌜ b ≤ 17 ⌝ }
@@ -258,7 +326,7 @@ fn candidates_at(set: &[u32], text: &[i32], end: usize, b: usize) -> usize
     let mut count = 0;
     let mut j = 0;
     while j < k {
-        if same_fingerprint(set, j, text, end, b) {
+        if is_candidate(set, j, text, end, b) {
             count += 1;
         }
         j += 1;
@@ -283,10 +351,13 @@ pub fn candidates(set: &[u32], text: &[i32]) -> usize
 
 // ---- attempts
 
-// Whether some pattern begins with the distances of the window.
+// Whether the window has the tree of some head.
 fn is_head(set: &[u32], text: &[i32], from: usize, end: usize) -> bool
     requires { ⌜ from ≤ end ⌝ }
 {
+    if holds_gap(text, from, end) {
+        return false;
+    }
     let k = pattern_count(set);
     let mut j = 0;
     while j < k {
@@ -315,10 +386,10 @@ pub fn longest_head(set: &[u32], text: &[i32], end: usize) -> usize
     0
 }
 
-// The attempts of the value at place p: one for each suffix of the values before it that has the
-// tree of some head, from the longest down to the first that has such a tree also with the value
+// The attempts of the sample at place p: one for each suffix of the values before it that has the
+// tree of some head, from the longest down to the first that has such a tree also with the sample
 // behind it.
-fn attempts_at(set: &[u32], text: &[i32], p: usize) -> usize
+fn attempts_of_sample(set: &[u32], text: &[i32], p: usize) -> usize
     requires { ⌜ p < length (now text) ⌝ }
     ensures { λ r. ⌜ r ≤ 257 ⌝ }
 {
@@ -334,6 +405,17 @@ fn attempts_at(set: &[u32], text: &[i32], p: usize) -> usize
         }
     }
     count
+}
+
+// The attempts of the value at place p; a gap makes none.
+fn attempts_at(set: &[u32], text: &[i32], p: usize) -> usize
+    requires { ⌜ p < length (now text) ⌝ }
+    ensures { λ r. ⌜ r ≤ 257 ⌝ }
+{
+    if is_gap(text, p) {
+        return 0;
+    }
+    attempts_of_sample(set, text, p)
 }
 
 // The attempts of the values at the places from first up to last, without last.

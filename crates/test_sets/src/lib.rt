@@ -22,7 +22,8 @@ fn copy_window(text: &[i32], values: &mut [i32], n: usize, seed: usize) {
     texts::copy(text, from, values, n);
 }
 
-// Adds a pattern of n values, which are put into the array; returns the seed to go on with.
+// Adds a pattern of n values, which are put into the array, the lowest sample for each gap; returns
+// the seed to go on with.
 fn add_filled(
     set: &mut [u32],
     values: &mut [i32],
@@ -35,6 +36,7 @@ fn add_filled(
 {
     let s = texts::fill(values, n, kind, seed);
     copy_window(text, values, n, s);
+    texts::fill_gaps(values, n);
     add(set, values, n);
     s
 }

@@ -34,6 +34,15 @@ fn expect_slot(
     difference::first(place, difference::expect_value(i, text[q], values[slot]))
 }
 
+// Whether the value at place q is an open minimum of so many values of the text: none from it on is
+// a gap, and no later one is smaller.
+fn is_open(text: &[i32], q: usize, taken: usize) -> bool {
+    if test_plain::holds_gap(text, q, taken) {
+        return false;
+    }
+    test_plain::closed_at(text, q, taken) >= taken
+}
+
 // The same with one open minimum more, if the value at place q is one.
 fn look_for(
     places: &[u32; 256],
@@ -44,7 +53,7 @@ fn look_for(
     q: usize,
     taken: usize,
 ) -> Open {
-    if test_plain::closed_at(text, q, taken) < taken {
+    if !is_open(text, q, taken) {
         return o;
     }
     let i = arrays::smaller(o.count, 256);
@@ -95,7 +104,7 @@ fn expect_minima(state: SearchState, text: &[i32]) -> Difference {
 }
 
 // The node is expected to have the longest suffix of the text, as far as it is taken, that is a
-// head.
+// head; behind a gap it is the root.
 fn expect_node(
     set: &[u32],
     automaton: &[u32],
@@ -204,6 +213,23 @@ pub fn changed(s: SearchState, node: u32, taken: u32) -> SearchState
         taken,
         node,
         minima: s.minima,
+        first: s.first,
+        places,
+        values,
+    }
+}
+
+// The state behind one more value or several, all of them gaps: at the root, with no open minimum,
+// and every slot as it was.
+pub fn cleared(s: SearchState, taken: u32) -> SearchState
+    ensures { λ r. ⌜ (r .node ≡ 0) × (r .taken ≡ taken) × (r .minima ≡ 0) × (r .first ≡ s .first) × (r .places ≡ s .places) × (r .values ≡ s .values) ⌝ }
+{
+    let places = s.places;
+    let values = s.values;
+    SearchState {
+        taken,
+        node: 0,
+        minima: 0,
         first: s.first,
         places,
         values,

@@ -3,6 +3,7 @@
 use Rattle.lists.proofs.Prelude.{_≡_, ap, refl, ap₂, Bool, true, false, _&&_, List, [], _∷_, flatten, ℤ, pos, negsuc, T, eqb, eqb→eq, tabulate, lastBelow, any}
 use Rattle.lists.proofs.Prelude.{select, same}
 use Rattle.lists.proofs.Tests.{and-split}
+use Rattle.gaps.specs.Gaps.{isGap}
 use Rattle.cartesian.specs.Cartesian.{size, leftmostFrom, leftmost, treeWithin, tree, sameTree, distanceAt, distances, cutFrom, rootPlace, treeOfWithin, treeOf}
 use Rattle.realization.specs.Realization.{realizable, leftTurns, leastRealization, failureLength, failureLengths}
 use Rattle.global_parents.specs.GlobalParents.{lastLeftChild, isPrefixChild, globalParent, globalParents}
@@ -57,5 +58,5 @@ all-hold (c ∷ cs) t =
 pub worked : AllHold table
 unfolding table hold alike equal tabulate lastBelow any select same flatten size leftmostFrom leftmost treeWithin tree sameTree distanceAt distances cutFrom
     rootPlace treeOfWithin treeOf realizable leftTurns leastRealization failureLength failureLengths lastLeftChild isPrefixChild globalParent globalParents
-    factorial rankFrom unrank isRank hasTree numbersFrom endHits hitsAt hits hitWords
+    factorial rankFrom unrank isRank isGap hasTree numbersFrom endHits hitsAt hits hitWords
 worked = all-hold table tt

@@ -27,7 +27,7 @@ inside c =
       arith,
       begins-at c,
       c .before .before .pattern-length .ensures,
-      parents-fit (patternsOf ws) (s .args .parents .now) (s .pre .1 .1) (s .args .j) k
+      parents-fit (patternsOf ws) (s .args .parents .now) (s .pre .1 .1 .1) (s .args .j) k
           (pattern-ge ws (s .pre .0) (s .args .j) k),
     )
 
@@ -98,7 +98,7 @@ passes-requires c κs =
     let a = d .pattern-start2 .result - d .before .pattern-start .result in
     let m = d .before .before .pattern-length .result in
     let p = s .args .p in
-    check-fits (patternsOf (s .args .set .now)) (s .args .parents .now) (s .pre .1 .1) (s .args .j) (s .pre .1 .0 .1) (s .args .text .now) p a
+    check-fits (patternsOf (s .args .set .now)) (s .args .parents .now) (s .pre .1 .1 .1) (s .args .j) (s .pre .1 .0 .1) (s .args .text .now) p a
     (a + m - a) (p + 1 - m) (p + 1 - (p + 1 - m)) (s .pre .1 .0 .2) (s .pre .1 .0 .0) (begins-at d) (omega arith) (omega arith) (omega arith)
 
 returns : tie.Need-returns
@@ -111,9 +111,9 @@ returns c =
     let m = d .before .before .pattern-length .result in
     let p = s .args .p in
     c .passes .ensures
-    ∙ check-is (patternsOf ws) (s .args .parents .now) (s .pre .1 .1) (s .args .j) (s .pre .1 .0 .1) (s .args .text .now) p a (a + m - a) (p + 1 - m)
+    ∙ check-is (patternsOf ws) (s .args .parents .now) (s .pre .1 .1 .1) (s .args .j) (s .pre .1 .0 .1) (s .args .text .now) p a (a + m - a) (p + 1 - m)
     (p + 1 - (p + 1 - m)) (s .pre .1 .0 .2) (s .pre .1 .0 .0) (begins-at d) (omega arith) (omega arith) (omega arith)
-    (pattern-realizable ws (s .pre .0) (s .args .j) (s .pre .1 .0 .1))
+    (pattern-realizable ws (s .pre .0) (s .args .j) (s .pre .1 .0 .1)) (s .pre .1 .1 .0)
 
 pub has-hit-spec : {M : Type 1} → statement M
 has-hit-spec =

@@ -1,6 +1,7 @@
 -- The loop takes the likely ranks one by one, lowest first; what is found are those that it has
 -- taken and that passed the check.
-use Rattle.lists.proofs.Prelude.{_≡_, _∙_, ap, sym, subst, ⊎-elim, Bool, [], ℕ, suc, _≤_, _<_, length, getD, take, length-take-le, needs}
+use Rattle.lists.proofs.Prelude.{_≡_, _∙_, ap, sym, subst, ⊎-elim, Bool, false, [], ℕ, suc, _≤_, _<_, length, getD, take, length-take-le, lastOf, needs}
+use Rattle.gaps.specs.Gaps.{holdsGap}
 use Rattle.pattern_set.specs.PatternSet.{patternsOf}
 use Rattle.pattern_set.proofs.IsSet.{set-good}
 use Rattle.bit_sets.specs.BitSets.{bitAt}
@@ -16,12 +17,13 @@ Inv-loop set text p likely numbers parents rest₀ found₀ rest found = Found l
 abbrev μ-loop : tie.MeasureT-loop
 μ-loop set text p likely numbers parents rest₀ found₀ rest found = rest
 
--- the rank taken is that of a pattern whose window lies within the text
+-- the rank taken is that of a pattern whose window lies within the text and holds no gap
 rank : (c : tie.After-lowest Inv-loop μ-loop) →
     let a = c .before .before .before .before .before .args in
     let ps = patternsOf (a .set .now) in
     let r = c .lowest .result in
     (r < length ps) × (getD (hitOrder ps) r 0 < length ps) × (length (ranked ps r) ≤ suc (a .p))
+    × (holdsGap (lastOf (length (ranked ps r)) (take (suc (a .p)) (a .text .now))) ≡ false)
 rank c =
     let s = c .before .before .before .before .before in
     let a = s .args in
@@ -31,7 +33,7 @@ rank c =
     let l = c .lowest .ensures in
     let isLikely = L .inv r (l .0) .1 (lowest-in (L .rest) r (l .1)) in
     let k = likely-rank ps (take (suc (a .p)) (a .text .now)) (a .likely) r (set-good (a .set .now) (s .pre .0)) (s .pre .1 .1 .0) (l .0) isLikely in
-    (k .0, k .1, subst (λ (n : ℕ). length (ranked ps r) ≤ n) (length-take-le (suc (a .p)) (a .text .now) (s .pre .1 .0)) (k .2))
+    (k .0, k .1, subst (λ (n : ℕ). length (ranked ps r) ≤ n) (length-take-le (suc (a .p)) (a .text .now) (s .pre .1 .0)) (k .2), k .3)
 
 -- its number is the one that the table has
 number : (c : tie.After-wide Inv-loop μ-loop) →
@@ -70,7 +72,13 @@ has-hit-requires c κs =
           subst
               (λ (n : ℕ). length (getD (patternsOf (s .args .set .now)) n []) ≤ suc (s .args .p)) e (k .2),
         ),
-        s .pre .1 .1 .1 .parentLists,
+        (
+          subst
+              (λ (n : ℕ). holdsGap (lastOf (length (getD (patternsOf (s .args .set .now)) n [])) (take (suc (s .args .p)) (s .args .text .now))) ≡ false)
+              e
+              (k .3),
+          s .pre .1 .1 .1 .parentLists,
+        ),
       ),
     )
 

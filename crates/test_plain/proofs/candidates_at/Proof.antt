@@ -15,8 +15,8 @@ pattern-count-requires c κs = search needs
 loop-holds : tie.Need-loop-holds Inv-loop μ-loop
 loop-holds c = search needs
 
-same-fingerprint-requires : tie.Need-same-fingerprint-requires Inv-loop μ-loop
-same-fingerprint-requires c κs = search needs
+is-candidate-requires : tie.Need-is-candidate-requires Inv-loop μ-loop
+is-candidate-requires c κs = search needs
 
 add-count : tie.Need-add-count Inv-loop μ-loop
 add-count c = search needs
@@ -41,7 +41,7 @@ candidates-at-spec =
     μ-loop
     pattern-count-requires
     loop-holds
-    same-fingerprint-requires
+    is-candidate-requires
     add-count
     add-j
     loop-less

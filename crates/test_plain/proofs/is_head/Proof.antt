@@ -9,6 +9,12 @@ Inv-loop set text from end k j₀ j = j ≤ k
 abbrev μ-loop : tie.MeasureT-loop
 μ-loop set text from end k j₀ j = k - j
 
+holds-gap-requires : tie.Need-holds-gap-requires Inv-loop μ-loop
+holds-gap-requires c κs = search needs
+
+returns : tie.Need-returns Inv-loop μ-loop
+returns c = search needs
+
 pattern-count-requires : tie.Need-pattern-count-requires Inv-loop μ-loop
 pattern-count-requires c κs = search needs
 
@@ -18,14 +24,14 @@ loop-holds c = search needs
 pattern-length-requires : tie.Need-pattern-length-requires Inv-loop μ-loop
 pattern-length-requires c κs = search needs
 
-sub-if1 : tie.Need-sub-if1 Inv-loop μ-loop
-sub-if1 c = search needs
+sub-if2 : tie.Need-sub-if2 Inv-loop μ-loop
+sub-if2 c = search needs
 
 begins-with-requires : tie.Need-begins-with-requires Inv-loop μ-loop
 begins-with-requires c κs = search needs
 
-returns : tie.Need-returns Inv-loop μ-loop
-returns c = search needs
+returns-2 : tie.Need-returns-2 Inv-loop μ-loop
+returns-2 c = search needs
 
 add-j : tie.Need-add-j Inv-loop μ-loop
 add-j c = search needs
@@ -36,8 +42,8 @@ loop-less c = search needs
 loop-again : tie.Need-loop-again Inv-loop μ-loop
 loop-again c = search needs
 
-returns-2 : tie.Need-returns-2 Inv-loop μ-loop
-returns-2 c = search needs
+returns-3 : tie.Need-returns-3 Inv-loop μ-loop
+returns-3 c = search needs
 
 pub is-head-spec : {M : Type 1} → statement M
 is-head-spec =
@@ -45,13 +51,15 @@ is-head-spec =
     (tie.spec
     Inv-loop
     μ-loop
+    holds-gap-requires
+    returns
     pattern-count-requires
     loop-holds
     pattern-length-requires
-    sub-if1
+    sub-if2
     begins-with-requires
-    returns
+    returns-2
     add-j
     loop-less
     loop-again
-    returns-2)
+    returns-3)

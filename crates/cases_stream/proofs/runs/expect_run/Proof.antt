@@ -4,10 +4,10 @@ use Rattle.cases_stream.proofs.runs.expect_run.Statement.{statement}
 use Rattle.cases_stream.proofs.runs.expect_run.Tie as tie
 
 abbrev Inv-loop : tie.InvT-loop
-Inv-loop set automaton₀ text n seed s₀ t₀ turns₀ automaton s t turns = (turns ≤ 5000) × (length automaton ≡ length automaton₀)
+Inv-loop set automaton₀ text n way seed s₀ t₀ turns₀ automaton s t turns = (turns ≤ 5000) × (length automaton ≡ length automaton₀)
 
 abbrev μ-loop : tie.MeasureT-loop
-μ-loop set automaton₀ text n seed s₀ t₀ turns₀ automaton s t turns = 5000 - turns
+μ-loop set automaton₀ text n way seed s₀ t₀ turns₀ automaton s t turns = 5000 - turns
 
 new-requires : tie.Need-new-requires Inv-loop μ-loop
 new-requires c κs = search needs

@@ -1,8 +1,10 @@
--- What the loop has written and the words of the hits from place p on make the words of the block.
-use Rattle.lists.proofs.Prelude.{_≡_, _∙_, ap, sym, ℕ, _-_, _≤_, take, add-one, arith, needs}
+-- What the loop has written and the words of the hits from place p on make the words of the block;
+-- where the samples begin is kept from place to place.
+use Rattle.lists.proofs.Prelude.{_≡_, _∙_, ap, sym, subst, ℕ, _-_, _≤_, take, add-one, arith, needs}
 use Rattle.pattern_set.specs.PatternSet.{patternsOf}
 use Rattle.pattern_set.proofs.IsSet.{set-good}
 use Rattle.filter_plan.specs.Plan.{textFingerprint}
+use Rattle.filter_windows.specs.Looks.{Since}
 use Rattle.filter_passes.specs.Passes.{hitsFrom}
 use Rattle.filter_passes.proofs.Lists.{hits-end}
 use Rattle.filter_passes.proofs.Written.{Written, written-start, written-end, place-room, place-written}
@@ -10,35 +12,43 @@ use Rattle.filter_passes.proofs.listing.write_block.Statement.{statemen
 use Rattle.filter_passes.proofs.listing.write_block.Tie as tie
 
 abbrev Inv-loop : tie.InvT-loop
-Inv-loop set text first end ownlow ownhigh fits numbers parents out₀ at own₀ to₀ p₀ out own to p =
+Inv-loop set text first end begin ownlow ownhigh fits numbers parents out₀ at own₀ since₀ to₀ p₀ out own since to p =
     (p ≤ end)
     × (own ≡ textFingerprint 17 (take p text))
+    × Since text p since
     × Written out₀ out at to (hitsFrom (patternsOf set) text first (end - first)) (hitsFrom (patternsOf set) text p (end - p))
 
 abbrev μ-loop : tie.MeasureT-loop
-μ-loop set text first end ownlow ownhigh fits numbers parents out₀ at own₀ to₀ p₀ out own to p = end - p
+μ-loop set text first end begin ownlow ownhigh fits numbers parents out₀ at own₀ since₀ to₀ p₀ out own since to p = end - p
 
 fingerprint-before-requires : tie.Need-fingerprint-before-requires Inv-loop μ-loop
 fingerprint-before-requires c κs = search needs
 
 loop-holds : tie.Need-loop-holds Inv-loop μ-loop
 loop-holds c =
-    let a = c .before .before .before .before .args in
+    let s = c .before .before .before .before in
+    let a = s .args in
     let all = hitsFrom (patternsOf (a .set .now)) (a .text .now) (a .first) (a .end - a .first) in
-    (omega arith, c .fingerprint-before .ensures, written-start (a .out .now) (a .at) all)
+    (omega arith, c .fingerprint-before .ensures, s .pre .1 .0 .3, written-start (a .out .now) (a .at) all)
 
 own-next-requires : tie.Need-own-next-requires Inv-loop μ-loop
 own-next-requires c κs = search needs
 
+begin-next-requires : tie.Need-begin-next-requires Inv-loop μ-loop
+begin-next-requires c κs =
+    let L = c .before .before .loop in
+    (omega arith, L .inv .2)
+
 hits-at-requires : tie.Need-hits-at-requires Inv-loop μ-loop
 hits-at-requires c κs =
-    let s = c .before .before .before .before .before .before .before in
-    (s .pre .0, ((omega arith, c .own-next .ensures), s .pre .1 .1 .0))
+    let o = c .before in
+    let s = o .before .before .before .before .before .before .before in
+    (s .pre .0, ((omega arith, o .own-next .ensures, c .begin-next .ensures), s .pre .1 .1 .0))
 
 write-place-requires : tie.Need-write-place-requires Inv-loop μ-loop
 write-place-requires c κs =
     let h = c .before in
-    let t = h .before .before in
+    let t = h .before .before .before in
     let L = t .before .loop in
     let s = t .before .before .before .before .before .before in
     let a = s .args in
@@ -47,7 +57,7 @@ write-place-requires c κs =
       omega arith,
       place-room ps (a .text .now) (L .p) (a .end) (t .loop-test .taken) (set-good (a .set .now) (s .pre .0)) (a .numbers .now)
           (found .result) (s .pre .1 .1 .0 .check .ranks) (found .ensures) (a .out .now) (L .out) (a .at) (L .to)
-          (hitsFrom ps (a .text .now) (a .first) (a .end - a .first)) (L .inv .2) (s .pre .1 .1 .1),
+          (hitsFrom ps (a .text .now) (a .first) (a .end - a .first)) (L .inv .3) (s .pre .1 .1 .1),
     )
 
 add-p : tie.Need-add-p Inv-loop μ-loop
@@ -60,7 +70,7 @@ loop-again : tie.Need-loop-again Inv-loop μ-loop
 loop-again c =
     let w = c .before .before in
     let h = w .before .before in
-    let t = h .before .before in
+    let t = h .before .before .before in
     let L = t .before .loop in
     let s = t .before .before .before .before .before .before in
     let a = s .args in
@@ -68,15 +78,16 @@ loop-again c =
     let found = h .hits-at in
     let e = w .write-place .ensures in (
       omega arith,
-      h .before .own-next .ensures ∙ ap (λ (n : ℕ). textFingerprint 17 (take n (a .text .now))) (sym (add-one (L .p))),
+      h .before .before .own-next .ensures ∙ ap (λ (n : ℕ). textFingerprint 17 (take n (a .text .now))) (sym (add-one (L .p))),
+      subst (λ (n : ℕ). Since (a .text .now) n (h .before .begin-next .result)) (sym (add-one (L .p))) (h .before .begin-next .ensures),
       place-written ps (a .text .now) (L .p) (a .end) (t .loop-test .taken) (set-good (a .set .now) (s .pre .0)) (a .numbers .now)
           (found .result) (s .pre .1 .1 .0 .check .ranks) (found .ensures) (a .out .now) (L .out) (a .at) (L .to)
-          (hitsFrom ps (a .text .now) (a .first) (a .end - a .first)) (L .inv .2)
+          (hitsFrom ps (a .text .now) (a .first) (a .end - a .first)) (L .inv .3)
           (w .write-place .last .1 .1 .1 .0) (w .write-place .result) (e .1) (e .0),
     )
 
 same-length : tie.Need-same-length Inv-loop μ-loop
-same-length c = c .before .loop .inv .2 .size
+same-length c = c .before .loop .inv .3 .size
 
 returns : tie.Need-returns Inv-loop μ-loop
 returns c =
@@ -84,8 +95,11 @@ returns c =
     let a = c .before .before .before .before .before .before .args in
     let ps = patternsOf (a .set .now) in
     let none = hits-end ps (a .text .now) (L .p) (a .end) (c .loop-test .left) in
+    let e : L .p ≡ a .end = omega (arith, L .inv .0, c .loop-test .left) in
+    let w =
     written-end (a .out .now) (L .out) (a .at) (L .to) (hitsFrom ps (a .text .now) (a .first) (a .end - a .first))
-    (hitsFrom ps (a .text .now) (L .p) (a .end - L .p)) (L .inv .2) none
+    (hitsFrom ps (a .text .now) (L .p) (a .end - L .p)) (L .inv .3) none in
+    (w .0, (w .1, subst (λ (n : ℕ). Since (a .text .now) n (L .since)) e (L .inv .2)))
 
 pub write-block-spec : {M : Type 1} → statement M
 write-block-spec =
@@ -96,6 +110,7 @@ write-block-spec =
     fingerprint-before-requires
     loop-holds
     own-next-requires
+    begin-next-requires
     hits-at-requires
     write-place-requires
     add-p

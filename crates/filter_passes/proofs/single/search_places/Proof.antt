@@ -1,29 +1,29 @@
 -- The loop keeps where the pass stands; what it has written and the words of the hits from place p
 -- on make the list.
-use Rattle.lists.proofs.Prelude.{_≡_, _∙_, ap, refl, ⊎-elim, List, ℕ, suc, _+_, _-_, _/_, _≤_, length, take, sets, arith, needs}
-use Rattle.matching.specs.Matching.{hits, hitWords, shortest, isCandidate}
+use Rattle.lists.proofs.Prelude.{_≡_, _∙_, ap, sym, ⊎-elim, List, ℕ, suc, _+_, _-_, _/_, _≤_, _<_, length, take, sets, arith, needs}
+use Rattle.matching.specs.Matching.{hits, hitWords, shortest, isCandidate, candidates}
 use Rattle.bit_sets.proofs.Laws.{size-le}
 use Rattle.pattern_set.specs.PatternSet.{patternsOf}
 use Rattle.pattern_set.proofs.IsSet.{set-good}
 use Rattle.filter_plan.specs.Plan.{textFingerprint}
 use Rattle.filter_plan.proofs.Fingerprints.{textFingerprint-bytes}
-use Rattle.filter_windows.specs.Looks.{SetOf, Looked}
-use Rattle.filter_windows.proofs.Rolling.{fingerprint-rolled}
+use Rattle.filter_windows.specs.Looks.{Since, SetOf, Looked}
+use Rattle.filter_windows.proofs.Samples.{since-sample}
 use Rattle.filter_windows.proofs.Lookups.{set-fingerprint-length, own-fingerprint-lt, looked-fitting, looked-none, looked-candidates}
 use Rattle.filter_passes.specs.Passes.{restHits}
-use Rattle.filter_passes.proofs.Places.{no-candidate-hit}
+use Rattle.filter_passes.proofs.Places.{gap-candidates, no-candidate-hit}
 use Rattle.filter_passes.proofs.Lists.{hits-all, hits-end, rest-none}
-use Rattle.filter_passes.proofs.Scan.{Scan, scan-start, scan-next, scan-pass, scan-end}
+use Rattle.filter_passes.proofs.Scan.{Scan, scan-start, scan-roll, scan-gap, scan-next, scan-pass, scan-end}
 use Rattle.filter_passes.proofs.Written.{Written, written-start, written-none, written-end, place-room, place-written}
 use Rattle.filter_passes.proofs.single.search_places.Statement.{statement}
 use Rattle.filter_passes.proofs.single.search_places.Tie as tie
 
 abbrev Inv-loop : tie.InvT-loop
-Inv-loop set text setlow sethigh ownlow ownhigh fits numbers parents out₀ b n fingerprint₀ own₀ count₀ to₀ p₀ out fingerprint own count to p =
-    Scan (patternsOf set) text b p fingerprint own count × Written out₀ out 0 to (restHits (patternsOf set) text 0) (restHits (patternsOf set) text p)
+Inv-loop set text setlow sethigh ownlow ownhigh fits numbers parents out₀ b n fingerprint₀ own₀ begin₀ count₀ to₀ p₀ out fingerprint own begin count to p =
+    Scan (patternsOf set) text b p fingerprint own begin count × Written out₀ out 0 to (restHits (patternsOf set) text 0) (restHits (patternsOf set) text p)
 
 abbrev μ-loop : tie.MeasureT-loop
-μ-loop set text setlow sethigh ownlow ownhigh fits numbers parents out₀ b n fingerprint₀ own₀ count₀ to₀ p₀ out fingerprint own count to p = n - p
+μ-loop set text setlow sethigh ownlow ownhigh fits numbers parents out₀ b n fingerprint₀ own₀ begin₀ count₀ to₀ p₀ out fingerprint own begin count to p = n - p
 
 -- the set fingerprint is of 1 to 17 values
 b-length : (c : tie.After-shortest-length Inv-loop μ-loop) → (1 ≤ c .shortest-length .result) × (c .shortest-length .result ≤ 17)
@@ -32,41 +32,107 @@ b-length c =
     let set = s .args .set .now in
     set-fingerprint-length (patternsOf set) (c .shortest-length .result) (set-good set (s .pre .0)) (c .shortest-length .ensures)
 
--- both fingerprints are those of place p
-rolled : (c : tie.After-roll2 Inv-loop μ-loop) →
-    let L = c .before .before .before .before in
-    let b = L .before in
-    let front = take (suc (L .loop .p)) (b .before .before .before .before .args .text .now) in
-    (c .before .roll .result ≡ textFingerprint (b .shortest-length .result) front) × (c .roll2 .result ≡ textFingerprint 17 front)
-rolled c =
-    let r = c .before in
-    let bit = r .before .new-bit in
-    let t = r .before .before in
+-- at a sample the samples begin where they did
+begun : (c : tie.Else1 Inv-loop μ-loop) →
+    let L = c .before .before .before in
+    Since (L .before .before .before .before .before .args .text .now) (suc (L .loop .p)) (L .loop .begin)
+begun c =
+    let g = c .before in
+    let t = g .before in
     let L = t .before .loop in
-    let b = t .before .before in
-    let text = b .before .before .before .before .args .text .now in (
-      fingerprint-rolled (b .shortest-length .result) text (L .p) (L .fingerprint) (bit .result) (r .roll .result)
-          (b-length b .0) (t .loop-test .taken) (L .inv .0 .ofSet) (bit .ensures .0) (r .roll .ensures),
-      fingerprint-rolled 17 text (L .p) (L .own) (bit .result) (c .roll2 .result)
-          (omega arith) (t .loop-test .taken) (L .inv .0 .ofOwn) (bit .ensures .0) (c .roll2 .ensures),
-    )
+    let text = t .before .before .before .before .before .before .args .text .now in
+    since-sample text (L .p) (L .begin) (t .loop-test .taken) (sym (g .is-gap .ensures) ∙ c .if1 .left) (L .inv .0 .since)
 
--- what the tables have for the set fingerprint and for place p are its candidates
-here : (c : tie.After-by-set-fingerprint Inv-loop μ-loop) (found : ℕ) →
-    let L = c .before .before .before .before .before in
+-- what the tables have for the set fingerprint and for the samples up to place p are its candidates
+here : (c : tie.Else1 Inv-loop μ-loop) (found : ℕ) →
+    let L = c .before .before .before in
     let a = L .before .before .before .before .before .args in
     let ps = patternsOf (a .set .now) in
-    Looked (a .setlow .now) (a .sethigh .now) (a .fits .now) (c .before .before .roll .result) (L .loop .p) found
+    Looked (a .setlow .now) (a .sethigh .now) (a .fits .now) (L .loop .fingerprint) (L .loop .p + 1 - L .loop .begin) found
     → SetOf ps (isCandidate (shortest 17 ps) (take (suc (L .loop .p)) (a .text .now))) found
 here c found looked =
-    let o = c .before in
-    let t = o .before .before .before in
+    let t = c .before .before in
+    let L = t .before .loop in
     let b = t .before .before in
     let s = b .before .before .before .before in
     let a = s .args in
-    looked-candidates (patternsOf (a .set .now)) (a .text .now) (t .before .loop .p) (set-good (a .set .now) (s .pre .0)) (t .loop-test .taken)
-    (a .setlow .now) (a .sethigh .now) (a .fits .now) (o .before .roll .result) (b .shortest-length .result) found
-    (s .pre .1 .1 .0) (b .shortest-length .ensures) (rolled o .0) looked
+    looked-candidates (patternsOf (a .set .now)) (a .text .now) (L .p) (L .begin) (L .p + 1 - L .begin) (set-good (a .set .now) (s .pre .0))
+    (t .loop-test .taken) (begun c) (omega arith)
+    (a .setlow .now) (a .sethigh .now) (a .fits .now) (L .fingerprint) (b .shortest-length .result) found
+    (s .pre .1 .1 .0) (b .shortest-length .ensures) (L .inv .0 .ofSet (t .loop-test .taken)) looked
+
+-- the fingerprints are of 16 bits
+small : (c : tie.In-loop Inv-loop μ-loop) → (c .before .loop .fingerprint < 65536) × (c .before .loop .own < 65536)
+small c =
+    let L = c .before .loop in
+    let b = c .before .before in
+    let l = b-length b in
+    let front = take (suc (L .p)) (b .before .before .before .before .args .text .now) in (
+      omega (arith, L .inv .0 .ofSet (c .loop-test .taken), textFingerprint-bytes (b .shortest-length .result) front (l .0) (l .1)),
+      omega (arith, L .inv .0 .ofOwn (c .loop-test .taken), own-fingerprint-lt front),
+    )
+
+-- one place on, with the fingerprints of the next place where there is one
+next : (c : tie.Joined1 Inv-loop μ-loop) (fingerprint own : ℕ) →
+    let L = c .before .before .before in
+    let b = L .before in
+    let a = b .before .before .before .before .args in
+    let ps = patternsOf (a .set .now) in
+    let text = a .text .now in
+    let p = L .loop .p + 1 in
+    (p < length text → fingerprint ≡ textFingerprint (b .shortest-length .result) (take (suc p) text))
+    → (p < length text → own ≡ textFingerprint 17 (take (suc p) text))
+    → Scan ps text (b .shortest-length .result) p fingerprint own (c .if1 .begin) (c .if1 .count)
+    × Written (a .out .now) (c .if1 .out) 0 (c .if1 .to) (restHits ps text 0) (restHits ps text p)
+next c fingerprint own ofSet ofOwn =
+    let g = c .before in
+    let t = g .before in
+    let L = t .before .loop in
+    let b = t .before .before .shortest-length .result in
+    let s = t .before .before .before .before .before .before in
+    let a = s .args in
+    let ps = patternsOf (a .set .now) in
+    let text = a .text .now in
+    let good = set-good (a .set .now) (s .pre .0) in
+    let n = L .p + 1 - L .begin in
+    let all = restHits ps text 0 in
+    ⊎-elim
+    -- a gap: no pattern has a hit
+    (λ w. let gap = sym (g .is-gap .ensures) ∙ w .0 .taken in
+    let none = gap-candidates ps text (L .p) good (t .loop-test .taken) gap in (
+      scan-gap ps text b (L .p) (L .fingerprint) (L .own) (L .begin) (L .count) fingerprint own (c .if1 .begin) (c .if1 .count)
+          good (t .loop-test .taken) (L .inv .0) ofSet ofOwn
+          gap (w .2) (w .3),
+      written-none (a .out .now) (L .out) 0 (L .to) all (restHits ps text (L .p)) (L .inv .1) (c .if1 .out) (c .if1 .to)
+          (restHits ps text (L .p + 1)) (rest-none ps text (L .p) (t .loop-test .taken) (no-candidate-hit ps text (L .p) good none)) (w .1) (w .4),
+    ))
+    (⊎-elim
+    -- patterns have the fingerprint: the candidates are counted, and the hits are written
+    (λ w. let alike = w .1 in
+    let fits = w .3 in
+    let looked =
+    looked-fitting (a .setlow .now) (a .sethigh .now) (a .fits .now) (L .fingerprint) n (alike .result) (alike .ensures) (fits .result) (fits .ensures) in
+    let hit = w .5 in
+    let e = w .7 .ensures in (
+      scan-next ps text b (L .p) (L .fingerprint) (L .own) (L .begin) (L .count) fingerprint own (c .if1 .begin) (c .if1 .count)
+          good (t .loop-test .taken) (L .inv .0) ofSet ofOwn
+          (sym (g .is-gap .ensures) ∙ w .0 .left) (w .11) (fits .result) (here record { before = g; if1 = w .0 } (fits .result) looked) (fits .ok)
+          (w .12 ∙ ap (λ (n : ℕ). L .count + n) (w .4 .ensures)),
+      place-written ps text (L .p) (length text) (t .loop-test .taken) good (a .numbers .now) (hit .result) (s .pre .1 .1 .1 .check .ranks)
+          (hit .ensures) (a .out .now) (L .out) 0 (L .to) all (L .inv .1) (c .if1 .out) (c .if1 .to) (w .10 ∙ e .1) (w .13 ∙ e .0),
+    ))
+    -- none has it, so the place has no hit
+    (λ w. let alike = w .1 in
+    let looked =
+    looked-none (a .setlow .now) (a .sethigh .now) (a .fits .now) (L .fingerprint) n (alike .result) (alike .ensures) (w .2 .left) in
+    let none = here record { before = g; if1 = w .0 } 0 looked in (
+      scan-pass ps text b (L .p) (L .fingerprint) (L .own) (L .begin) (L .count) fingerprint own (c .if1 .begin) (c .if1 .count)
+          good (t .loop-test .taken) (L .inv .0) ofSet ofOwn
+          (sym (g .is-gap .ensures) ∙ w .0 .left) (w .4) none (w .5),
+      written-none (a .out .now) (L .out) 0 (L .to) all (restHits ps text (L .p)) (L .inv .1) (c .if1 .out) (c .if1 .to)
+          (restHits ps text (L .p + 1)) (rest-none ps text (L .p) (t .loop-test .taken) (no-candidate-hit ps text (L .p) good none)) (w .3) (w .6),
+    )))
+    (c .if1 .came)
 
 shortest-length-requires : tie.Need-shortest-length-requires Inv-loop μ-loop
 shortest-length-requires c κs = search needs
@@ -75,33 +141,22 @@ loop-holds : tie.Need-loop-holds Inv-loop μ-loop
 loop-holds c =
     let a = c .before .before .before .before .args in
     let ps = patternsOf (a .set .now) in
-    (scan-start ps (a .text .now) (c .shortest-length .result), written-start (a .out .now) 0 (restHits ps (a .text .now) 0))
+    (scan-start ps (a .text .now) (c .shortest-length .result) (b-length c .0), written-start (a .out .now) 0 (restHits ps (a .text .now) 0))
 
-new-bit-requires : tie.Need-new-bit-requires Inv-loop μ-loop
-new-bit-requires c κs = search needs
+is-gap-requires : tie.Need-is-gap-requires Inv-loop μ-loop
+is-gap-requires c κs = search needs
 
-roll-requires : tie.Need-roll-requires Inv-loop μ-loop
-roll-requires c κs =
-    let L = c .before .before in
-    let b = L .before in
-    let l = b-length b in
-    let front = take (L .loop .p) (b .before .before .before .before .args .text .now) in
-    let bytes = textFingerprint-bytes (b .shortest-length .result) front (l .0) (l .1) in
-    (omega (arith, L .loop .inv .0 .ofSet, bytes), c .new-bit .ensures .1, omega (arith, l .0), omega (arith, l .1))
-
-roll-requires-2 : tie.Need-roll-requires-2 Inv-loop μ-loop
-roll-requires-2 c κs =
-    let L = c .before .before .before in
-    let front = take (L .loop .p) (L .before .before .before .before .before .args .text .now) in
-    (omega (arith, L .loop .inv .0 .ofOwn, own-fingerprint-lt front), c .before .new-bit .ensures .1, omega arith, omega arith)
+add-begin : tie.Need-add-begin Inv-loop μ-loop
+add-begin c = search needs
 
 by-set-fingerprint-requires : tie.Need-by-set-fingerprint-requires Inv-loop μ-loop
-by-set-fingerprint-requires c κs =
-    let L = c .before .before .before .before in
-    let b = L .before in
-    let l = b-length b in
-    let front = take (suc (L .loop .p)) (b .before .before .before .before .args .text .now) in
-    omega (arith, rolled c .0, textFingerprint-bytes (b .shortest-length .result) front (l .0) (l .1))
+by-set-fingerprint-requires c κs = small (c .before .before) .0
+
+add-fitting : tie.Need-add-fitting Inv-loop μ-loop
+add-fitting c = search needs
+
+sub-fitting : tie.Need-sub-fitting Inv-loop μ-loop
+sub-fitting c = let h = begun (c .before .before) .0 in omega arith
 
 fitting-requires : tie.Need-fitting-requires Inv-loop μ-loop
 fitting-requires c κs = search needs
@@ -112,23 +167,23 @@ size-requires c κs = search needs
 add-count : tie.Need-add-count Inv-loop μ-loop
 add-count c =
     let f = c .before in
-    let d = f .before .before in
-    let L = d .before .before .before .before .before in
-    let scan = L .loop .inv .0 in
-    let s = L .before .before .before .before .before in
+    let t = f .before .before .before .before .before in
+    let scan = t .before .loop .inv .0 in
+    let s = t .before .before .before .before .before .before in
     omega (arith, s .pre .1 .0 .0, scan .bound, scan .inside, c .size .ensures, size-le (f .fitting .result) (f .fitting .ok))
 
 hits-at-requires : tie.Need-hits-at-requires Inv-loop μ-loop
 hits-at-requires c κs =
-    let o = c .before .before .before .before in
-    let t = o .before .before .before in
+    let e = c .before .before .before .before in
+    let t = e .before .before in
     let s = t .before .before .before .before .before .before in
-    (s .pre .0, ((t .loop-test .taken, rolled o .1), s .pre .1 .1 .1))
+    (s .pre .0, ((t .loop-test .taken, t .before .loop .inv .0 .ofOwn (t .loop-test .taken), begun e), s .pre .1 .1 .1))
 
 write-place-requires : tie.Need-write-place-requires Inv-loop μ-loop
 write-place-requires c κs =
     let h = c .before in
-    let t = h .before .before .before .before .before .before .before .before in
+    let e = h .before .before .before .before .before in
+    let t = e .before .before in
     let L = t .before .loop in
     let s = t .before .before .before .before .before .before in
     let a = s .args in
@@ -144,70 +199,95 @@ write-place-requires c κs =
 add-p : tie.Need-add-p Inv-loop μ-loop
 add-p c = search needs
 
+new-bit-requires : tie.Need-new-bit-requires Inv-loop μ-loop
+new-bit-requires c κs = search needs
+
+roll-requires : tie.Need-roll-requires Inv-loop μ-loop
+roll-requires c κs =
+    let t = c .before .before .before .before in
+    let l = b-length (t .before .before) in
+    (small t .0, c .new-bit .ensures .1, omega (arith, l .0), omega (arith, l .1))
+
+roll-requires-2 : tie.Need-roll-requires-2 Inv-loop μ-loop
+roll-requires-2 c κs =
+    let r = c .before in
+    (small (r .before .before .before .before) .1, r .new-bit .ensures .1, omega arith, omega arith)
+
 loop-less : tie.Need-loop-less Inv-loop μ-loop
 loop-less c = search needs
 
+-- both fingerprints are rolled on to the next place
 loop-again : tie.Need-loop-again Inv-loop μ-loop
 loop-again c =
-    let d = c .before in
-    let o = d .before in
-    let next = rolled o in
-    let t = o .before .before .before in
+    let r = c .before in
+    let bit = r .before .new-bit in
+    let i = r .before .before in
+    let t = i .before .before .before in
     let L = t .before .loop in
-    let b = t .before .before .shortest-length .result in
-    let s = t .before .before .before .before .before .before in
-    let a = s .args in
+    let b = t .before .before in
+    let text = b .before .before .before .before .args .text .now in
+    next (i .before) (r .roll .result) (c .roll2 .result)
+    (λ h. scan-roll (b .shortest-length .result) text (L .p) (L .fingerprint) (bit .result) (r .roll .result)
+    (b-length b .0) h (L .inv .0 .ofSet (t .loop-test .taken)) (bit .ensures .0) (r .roll .ensures))
+    (λ h. scan-roll 17 text (L .p) (L .own) (bit .result) (c .roll2 .result)
+    (omega arith) h (L .inv .0 .ofOwn (t .loop-test .taken)) (bit .ensures .0) (c .roll2 .ensures))
+
+-- behind the last place all is counted and written
+ended : (c : tie.After-shortest-length Inv-loop μ-loop) (out : List ℕ) (fingerprint own begin count to p : ℕ) →
+    let a = c .before .before .before .before .args in
     let ps = patternsOf (a .set .now) in
     let text = a .text .now in
-    let good = set-good (a .set .now) (s .pre .0) in
-    let r = o .before .roll .result in
-    let alike = d .by-set-fingerprint in
-    let all = restHits ps text 0 in
+    Scan ps text (c .shortest-length .result) p fingerprint own begin count
+    × Written (a .out .now) out 0 to (restHits ps text 0) (restHits ps text p)
+    → length text ≤ p → (out' : List ℕ) (count' to' : ℕ) → out' ≡ out → count' ≡ count → to' ≡ to
+    → (length out' ≡ length (a .out .now))
+    × (to' / 2 ≡ length (hits ps text))
+    × (count' ≡ candidates ps text)
+    × (out' ≡ sets (a .out .now) 0 (hitWords (hits ps text)))
+ended c out fingerprint own begin count to p inv h out' count' to' o k t =
+    let a = c .before .before .before .before .args in
+    let ps = patternsOf (a .set .now) in
+    let text = a .text .now in
+    let none = hits-end ps text p (length text) h in
+    let all = hits-all ps text in
+    let e = written-end (a .out .now) out 0 to (restHits ps text 0) (restHits ps text p) (inv .1) none in (
+      ap length o ∙ inv .1 .size,
+      omega (arith, t, e .0, ap length all),
+      k ∙ scan-end ps text (c .shortest-length .result) p fingerprint own begin count (inv .0) h,
+      o ∙ e .1 ∙ ap (λ (v : List (ℕ × ℕ)). sets (a .out .now) 0 (hitWords v)) all,
+    )
+
+left : (c : tie.Left-loop Inv-loop μ-loop) →
+    let a = c .before .before .before .before .before .before .args in
+    let ps = patternsOf (a .set .now) in
+    let text = a .text .now in
+    (length (c .loop-test .out) ≡ length (a .out .now))
+    × (c .loop-test .to / 2 ≡ length (hits ps text))
+    × (c .loop-test .count ≡ candidates ps text)
+    × (c .loop-test .out ≡ sets (a .out .now) 0 (hitWords (hits ps text)))
+left c =
+    let L = c .before .loop in
+    let b = c .before .before in
+    let text = b .before .before .before .before .args .text .now in
+    let x = c .loop-test in
     ⊎-elim
-    -- patterns have the fingerprint: the candidates are counted, and the hits are written
-    (λ w. let fits = w .1 in
-    let looked =
-    looked-fitting (a .setlow .now) (a .sethigh .now) (a .fits .now) r (L .p) (alike .result) (alike .ensures) (fits .result) (fits .ensures) in
-    let hit = w .3 in
-    let e = w .5 .ensures in (
-      scan-next ps text b (L .p) (L .fingerprint) (L .own) (L .count) r (o .roll2 .result) (c .if1 .count) (fits .result)
-          good (t .loop-test .taken) (L .inv .0) (next .0) (next .1) (here d (fits .result) looked) (fits .ok)
-          (w .9 ∙ ap (λ (n : ℕ). L .count + n) (w .2 .ensures)),
-      place-written ps text (L .p) (length text) (t .loop-test .taken) good (a .numbers .now) (hit .result) (s .pre .1 .1 .1 .check .ranks)
-          (hit .ensures) (a .out .now) (L .out) 0 (L .to) all (L .inv .1) (c .if1 .out) (c .if1 .to) (w .8 ∙ e .1) (w .10 ∙ e .0),
-    ))
-    -- none has it, so the place has no hit
-    (λ w. let looked =
-    looked-none (a .setlow .now) (a .sethigh .now) (a .fits .now) r (L .p) (alike .result) (alike .ensures) (w .0 .left) in
-    let none = here d 0 looked in (
-      scan-pass ps text b (L .p) (L .fingerprint) (L .own) (L .count) r (o .roll2 .result) (c .if1 .count) 0
-          good (t .loop-test .taken) (L .inv .0) (next .0) (next .1) none refl (w .2),
-      written-none (a .out .now) (L .out) 0 (L .to) all (restHits ps text (L .p)) (L .inv .1) (c .if1 .out) (c .if1 .to)
-          (restHits ps text (L .p + 1)) (rest-none ps text (L .p) (t .loop-test .taken) (no-candidate-hit ps text (L .p) good none)) (w .1) (w .3),
-    ))
-    (c .if1 .came)
+    (λ w. ended b (L .out) (L .fingerprint) (L .own) (L .begin) (L .count) (L .to) (L .p) (L .inv) (w .0 .left) (x .out) (x .count) (x .to)
+    (w .1) (w .3) (w .4))
+    (λ w. let i = w .2 in
+    let over : L .p + 1 < length text → ⊥ = λ h. omega (arith, h, w .3 .taken) in
+    let j : tie.Joined1 Inv-loop μ-loop = record { before = record { before = record { before = c .before; loop-test = w .0 }; is-gap = w .1 }; if1 = i } in
+    let on = next j (L .fingerprint) (L .own) (λ h. absurd (over h)) (λ h. absurd (over h)) in
+    ended b (i .out) (L .fingerprint) (L .own) (i .begin) (i .count) (i .to) (L .p + 1) on (w .3 .taken) (x .out) (x .count) (x .to)
+    (w .4) (w .6) (w .7))
+    (x .came)
 
 same-length : tie.Need-same-length Inv-loop μ-loop
-same-length c = c .before .loop .inv .1 .size
+same-length c = left (c .before) .0
 
 returns : tie.Need-returns Inv-loop μ-loop
 returns c =
-    let s = c .before .before .before .before .before .before in
-    let a = s .args in
-    let ps = patternsOf (a .set .now) in
-    let text = a .text .now in
-    let L = c .before .loop in
-    let b = c .before .before .shortest-length .result in
-    let none = hits-end ps text (L .p) (length text) (c .loop-test .left) in
-    let all = hits-all ps text in
-    let e = written-end (a .out .now) (L .out) 0 (L .to) (restHits ps text 0) (restHits ps text (L .p)) (L .inv .1) none in
-    let half : L .to / 2 ≡ length (hits ps text) = omega (arith, e .0, ap length all) in (
-      half,
-      (
-        scan-end ps text b (L .p) (L .fingerprint) (L .own) (L .count) (L .inv .0) (c .loop-test .left),
-        e .1 ∙ ap (λ (v : List (ℕ × ℕ)). sets (a .out .now) 0 (hitWords v)) all,
-      ),
-    )
+    let e = left (c .before) in
+    (e .1, (e .2, e .3))
 
 pub search-places-spec : {M : Type 1} → statement M
 search-places-spec =
@@ -217,16 +297,20 @@ search-places-spec =
     μ-loop
     shortest-length-requires
     loop-holds
-    new-bit-requires
-    roll-requires
-    roll-requires-2
+    is-gap-requires
+    add-begin
     by-set-fingerprint-requires
+    add-fitting
+    sub-fitting
     fitting-requires
     size-requires
     add-count
     hits-at-requires
     write-place-requires
     add-p
+    new-bit-requires
+    roll-requires
+    roll-requires-2
     loop-less
     loop-again
     same-length
