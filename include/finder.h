@@ -26,6 +26,7 @@
  *   11  the list of a filter search does not fit its array
  *   12  a catalogue is involved and the distance list is longer than 10
  *   13  a pattern given as values holds a gap
+ *   14  no pattern of the set has the number
  */
 #ifndef FINDER_H
 #define FINDER_H
@@ -129,6 +130,11 @@ FinderCounts finder_check_set(const uint32_t *set, size_t words);
 /* Adds a pattern, given as n values, as the last one; tells the patterns and the distances then. The set uses 3 words and one for
  * each pattern and each distance. Refuses 1, 2, 13, 5, 6, 10 (too few words for the larger set). */
 FinderCounts finder_add_pattern(uint32_t *set, size_t words, const int32_t *values, size_t n);
+
+/* Withdraws the pattern of a number, counted from 0: higher numbers move down by one; tells the patterns and the distances that are
+ * left. The words that the set no longer uses, one and one for each distance of the pattern, become 0; those behind are as they
+ * were. An automaton of the set before is none of the smaller one: build it anew, and begin a new search. Refuses 5, 14. */
+FinderCounts finder_withdraw_pattern(uint32_t *set, size_t words, size_t number);
 
 /* ---- automaton and searches */
 

@@ -1,6 +1,6 @@
 #!/usr/bin/env python3
 """Makes the input of the test programs cases_patterns and cases_sets: cases for the entries on patterns (1 to 6, and 10) or on
-sets (7 to 9), with what each must give.
+sets (7 to 9, and 11), with what each must give.
 
 usage: entries.py patterns > crates/cases_patterns/stdin
        entries.py sets > crates/cases_sets/stdin
@@ -8,7 +8,8 @@ usage: entries.py patterns > crates/cases_patterns/stdin
 What is expected is computed here in another way than in the finder: distances by their definition place by place,
 possible lists by building values for them, least values by raising values until they have the list, global parents from
 the tree of the least values, failure lengths by comparing distances of tails, codes by the sum, next lists by trying greater
-distances from the last place on, which is held to all possible lists of a length in order. The seed is fixed, and all cases are
+distances from the last place on, which is held to all possible lists of a length in order, a set with a pattern withdrawn by writing
+the words of the patterns that are left. The seed is fixed, and all cases are
 made whichever are asked for.
 """
 import random
@@ -16,7 +17,7 @@ import sys
 from itertools import product
 from math import factorial
 
-ENTRIES = {"patterns": (*range(1, 7), 10), "sets": range(7, 10)}
+ENTRIES = {"patterns": (*range(1, 7), 10), "sets": (*range(7, 10), 11)}
 if len(sys.argv) != 2 or sys.argv[1] not in ENTRIES:
     sys.exit("usage: entries.py patterns|sets")
 
@@ -197,6 +198,19 @@ def case_add(ws, xs):
     return left
 
 
+def case_withdraw(ws, j):
+    ps = read_set(ws)
+    r = first([(5, ps is None)]) or first([(14, j >= len(ps))])
+    if r:
+        cases.append([11, len(ws), *ws, j, r, 0, 0, *ws])
+        return ws
+    smaller = ps[:j] + ps[j + 1:]
+    used = set_words(smaller)
+    left = used + [0] * (len(set_words(ps)) - len(used)) + ws[len(set_words(ps)):]
+    cases.append([11, len(ws), *ws, j, 0, len(smaller), sum(map(len, smaller)), *left])
+    return left
+
+
 GAP, LOW, HIGH, WORD = -2 ** 31, -2 ** 31 + 1, 2 ** 31 - 1, 2 ** 32 - 1
 
 
@@ -355,6 +369,48 @@ for n in (0, 10, 11, 20, 21, 255, 256, 257):
 for ds in ([0, 1, 2, 2], [1], [0, 2], [0, WORD], [0, 1, 1, 3, 2]):
     case_next(ds, 0)
     case_next(ds, len(ds))
+
+# ---- withdrawing: every number of small sets, some with words behind them; then one after the other until nothing is left
+HUGE = 2 ** 64 - 1
+mixed = [[0], [0, 0, 1], [0], [0, 1], [0, 0, 1], [0, 0, 0, 1, 2]]
+for ps in (three, mixed, [[0, 1, 2]] * 4, [[0]] * 5, [[0]], [[0, 1, 1, 3]]):
+    for behind in ([], [7], [7] * 6):
+        for j in (*range(len(ps) + 1), 64, WORD, WORD + 1, HUGE):
+            case_withdraw(set_words(ps) + behind, j)
+    for choose in (lambda n: 0, lambda n: n // 2, lambda n: max(n - 1, 0)):
+        ws = set_words(ps) + [7, 7]
+        for n in range(len(ps), -1, -1):
+            ws = case_withdraw(ws, choose(n))
+        assert ws == [0] * len(set_words(ps)) + [7, 7]
+# the empty set, and arrays that are no sets
+for ws in ([], [0], [0, 0], [0, 0, 0], [0, 0, 0, 7], [0, 0, 7], [0, 1, 0], [1, 1, 0, 0, 0], [1, 1, 1, 1, 0], [1, 4, 0, 4, 0, 1, 2, 2],
+           good[:-1], [65, 65] + list(range(66)) + [0] * 65, [1, 257, 0, 257] + [0] * 257):
+    for j in (0, 1, HUGE):
+        case_withdraw(ws, j)
+# patterns of 256 distances, 64 patterns, 4,096 distances, both
+for j in range(4):
+    case_withdraw(set_words([[0] * 256, [0], list(range(256))]) + [7], j)
+for j in (0, 31, 63, 64):
+    case_withdraw(many, j)
+for ps in ([[0] * 256] * 16, [distances(values(64, 5)) for _ in range(64)]):
+    for j in (0, len(ps) // 2, len(ps) - 1):
+        case_withdraw(set_words(ps) + [7, 7], j)
+# adds and withdrawals in random order; some patterns are added twice
+for _ in range(12):
+    ws = [0, 0, 0] + [random.randint(0, 9) for _ in range(60)]
+    xs = [1]
+    for _ in range(16):
+        if random.random() < 0.6:
+            xs = xs if random.random() < 0.3 else values(random.randint(1, 9), random.choice((1, 3, 1000)))
+            before = ws
+            ws = case_add(ws, xs)
+            if ws != before and random.random() < 0.3:
+                back = case_withdraw(ws, ws[0] - 1)
+                used = 3 + before[0] + before[1]
+                assert back[:used] == before[:used]
+        else:
+            ws = case_withdraw(ws, random.randint(0, max(ws[0], 1)))
+    case_check(ws)
 
 for c in cases:
     if c[0] in ENTRIES[sys.argv[1]]:

@@ -218,6 +218,25 @@ static void whole_text(void)
     free(out);
 }
 
+/* Leaves out the hits of pattern j and lowers the numbers above it; tells how many are left. */
+static size_t leave_out(uint32_t *list, size_t listed, uint32_t j)
+{
+    size_t left = 0;
+    for (size_t i = 0; i < listed; i++)
+        if (list[2 * i + 1] != j) {
+            list[2 * left] = list[2 * i];
+            list[2 * left++ + 1] = list[2 * i + 1] - (list[2 * i + 1] > j);
+        }
+    return left;
+}
+
+static int zeros(const uint32_t *words, size_t from, size_t to)
+{
+    while (from < to && words[from] == 0)
+        from++;
+    return from == to;
+}
+
 static void full_set(void)
 {
     enum { USED = 3 + 64 + 4096, SET = 3 * USED, AUTOMATON = 8 * 16 * 4097, TEXT = 20000, ROOM = 8 * 64 * TEXT };
@@ -266,6 +285,19 @@ static void full_set(void)
     check(filter_refuses(set, USED, text, TEXT, out, 2 * listed - 1, ROOM, 11), "one word less is 11");
     check(refuses(set, USED, automaton, c.second, finder_new_search(), text, TEXT, out, 127, 10), "a hit array of 127 words is 10");
     check(refuses(set, USED, automaton, c.second - 1, finder_new_search(), text, TEXT, out, 128, 7), "an automaton without its last word is 7");
+
+    size_t left = leave_out(plain, listed, 31);
+    FinderCounts w = finder_withdraw_pattern(set, SET, 31);
+    check(w.refusal == 0 && w.first == 63 && w.second == 4032, "a pattern of the full set is withdrawn");
+    check(zeros(set, USED - 65, USED) && held(set, USED, SET) == SET, "the words no longer used are 0, those behind keep their values");
+    check(left < listed && list_plainly(set, text, TEXT, run) == left && memcmp(run, plain, 2 * left * sizeof *plain) == 0,
+          "the plain listing is the one before without its hits");
+    check(refuses(set, SET, automaton, c.second, finder_new_search(), text, TEXT, out, 128, 7), "the automaton of the larger set is 7");
+    c = finder_build_automaton(set, SET, automaton, AUTOMATON);
+    after(set, SET, automaton, c.second, text, TEXT, 126, run, &count, &good);
+    check(good && count == left && memcmp(run, plain, 2 * left * sizeof *plain) == 0, "a stream search gives that list");
+    f = finder_filter_search(set, SET, text, TEXT, out, 2 * left);
+    check(f.refusal == 0 && f.first == left && memcmp(out, plain, 2 * left * sizeof *plain) == 0, "and so does a filter search");
     free(set);
     free(automaton);
     free(plain);

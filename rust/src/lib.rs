@@ -73,6 +73,8 @@ pub enum Refusal {
     CatalogueTooLong = 12,
     /// A pattern given as values holds a gap.
     HoldsGap = 13,
+    /// No pattern of the set has the number.
+    NoSuchPattern = 14,
 }
 
 impl Refusal {
@@ -80,7 +82,7 @@ impl Refusal {
         use Refusal::*;
         let all = [
             Empty, TooLong, CodeTooLong, NotRealizable, BrokenSet, SetFull, OtherAutomaton, BrokenState, TextTooLong,
-            ArrayTooShort, ListTooLong, CatalogueTooLong, HoldsGap,
+            ArrayTooShort, ListTooLong, CatalogueTooLong, HoldsGap, NoSuchPattern,
         ];
         match number {
             0 => Ok(()),
@@ -229,6 +231,27 @@ impl Set {
             self.words.truncate(used);
         }
         answer
+    }
+
+    /// Withdraws the pattern of a number; higher numbers move down by one. A [`Search`] that was made before goes on with the
+    /// patterns it was made for.
+    ///
+    /// ```
+    /// use finder::{Hit, Refusal, Set};
+    /// let mut set = Set::new();
+    /// set.add(&[1, 2])?;
+    /// set.add(&[2, 1])?;
+    /// set.add(&[1, 2, 3])?;
+    /// set.withdraw(0)?;
+    /// assert_eq!(set.search(&[4, 5, 6])?.hits, [Hit { last: 2, pattern: 1 }]);
+    /// assert_eq!(set.withdraw(2), Err(Refusal::NoSuchPattern));
+    /// # Ok::<(), Refusal>(())
+    /// ```
+    pub fn withdraw(&mut self, pattern: usize) -> Result<(), Refusal> {
+        let left = raw::withdraw_pattern(&mut self.words, pattern);
+        Refusal::check(left.refusal)?;
+        self.words.truncate(3 + left.first + left.second);
+        Ok(())
     }
 
     /// The number of patterns.

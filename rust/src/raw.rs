@@ -93,6 +93,7 @@ mod c {
         pub fn finder_empty_set(out: *mut u32, room: usize) -> Written;
         pub fn finder_check_set(set: *const u32, n: usize) -> Counts;
         pub fn finder_add_pattern(set: *mut u32, n: usize, v: *const i32, m: usize) -> Counts;
+        pub fn finder_withdraw_pattern(set: *mut u32, n: usize, number: usize) -> Counts;
         pub fn finder_build_automaton(set: *const u32, n: usize, out: *mut u32, room: usize) -> Counts;
         pub fn finder_new_search() -> State;
         pub fn finder_stream_search(
@@ -156,6 +157,11 @@ pub fn check_set(set: &[u32]) -> Counts {
 /// Adds a pattern to a set in place.
 pub fn add_pattern(set: &mut [u32], values: &[i32]) -> Counts {
     unsafe { c::finder_add_pattern(set.as_mut_ptr(), set.len(), values.as_ptr(), values.len()) }
+}
+
+/// Withdraws a pattern from a set in place.
+pub fn withdraw_pattern(set: &mut [u32], number: usize) -> Counts {
+    unsafe { c::finder_withdraw_pattern(set.as_mut_ptr(), set.len(), number) }
 }
 
 /// The automaton of a set.

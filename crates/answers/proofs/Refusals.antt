@@ -21,6 +21,7 @@ refusals =
     ∷ some Refusal.ListTooLong
     ∷ some Refusal.CatalogueTooLong
     ∷ some Refusal.HoldsGap
+    ∷ some Refusal.NoSuchPattern
     ∷ []
 
 back : (r : Refusal) → getD refusals (number r) none ≡ some r
@@ -38,6 +39,7 @@ back Refusal.ArrayTooShort = refl
 back Refusal.ListTooLong = refl
 back Refusal.CatalogueTooLong = refl
 back Refusal.HoldsGap = refl
+back Refusal.NoSuchPattern = refl
 
 pub number-injective : (r s : Refusal) → number r ≡ number s → r ≡ s
 number-injective r s e = Option·some-injective r s (sym (back r) ∙ ap (λ (n : ℕ). getD refusals n none) e ∙ back s)

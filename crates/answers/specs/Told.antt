@@ -19,6 +19,7 @@ number Refusal.ArrayTooShort = 10
 number Refusal.ListTooLong = 11
 number Refusal.CatalogueTooLong = 12
 number Refusal.HoldsGap = 13
+number Refusal.NoSuchPattern = 14
 
 -- refusal and number of words
 abbrev pub toldWritten : Written → ℕ × ℕ

@@ -8,6 +8,8 @@
 //   8 check of a set: words of the array, the array; refusal, patterns, distances
 //   9 adding a pattern: words of the array, the array, length, the values; refusal, patterns,
 //       distances, every word afterwards
+//   11 withdrawing a pattern: words of the array, the array, number; refusal, patterns, distances,
+//       every word afterwards
 // An array that is only written holds 7s before the call.
 mod set_cases;
 
@@ -24,7 +26,10 @@ fn case(s: &[u8], entry: u64, at: usize) -> Outcome {
     if entry == 8 {
         return set_cases::check_case(s, at, &mut set);
     }
-    set_cases::add_case(s, at, &mut set, &mut values)
+    if entry == 9 {
+        return set_cases::add_case(s, at, &mut set, &mut values);
+    }
+    set_cases::withdraw_case(s, at, &mut set)
 }
 
 // Runs the cases from the start of the input, and prints how many there are and how many of them
@@ -40,7 +45,7 @@ fn run(s: &[u8]) {
 
 // Runs the cases of standard input.
 fn main() {
-    let mut buf = [0u8; 262144];
+    let mut buf = [0u8; 524288];
     let n = io::read_full(0, &mut buf);
     run(&buf[..n]);
 }

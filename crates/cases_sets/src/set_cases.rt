@@ -71,3 +71,18 @@ pub(crate) fn add_case(s: &[u8], at: usize, set: &mut [u32], values: &mut [i32])
     let length = case_input::small(n.size, set.len());
     given_case(s, n.at, &mut set[..length], values)
 }
+
+// The number is read and that pattern withdrawn, and the array is compared.
+fn withdrawn_case(s: &[u8], at: usize, set: &mut [u32]) -> Outcome {
+    let p = case_input::words(s, at, set);
+    let j = case_input::number(s, p);
+    let a = finder::withdraw_pattern(set, j.size as usize);
+    expect_set(s, j.at, a, set)
+}
+
+// A case of withdrawing a pattern.
+pub(crate) fn withdraw_case(s: &[u8], at: usize, set: &mut [u32]) -> Outcome {
+    let n = case_input::number(s, at);
+    let length = case_input::small(n.size, set.len());
+    withdrawn_case(s, n.at, &mut set[..length])
+}

@@ -2,4 +2,6 @@
 pub mod Refusals
 pub mod Searchable
 pub mod Stream
+pub mod Filter
 pub mod NextList
+pub mod Sets

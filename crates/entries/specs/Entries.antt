@@ -1,12 +1,12 @@
 -- The entries: when each refuses, what it counts and what it writes.
-use Rattle.lists.specs.Prelude.{Bool, cond, not, _&&_, _||_, List, [], _∷_, _++_, flatten, ℕ, zero, suc, _+_, _*_, eqb, leb, ltb, ℤ, length, drop, begins}
-use Rattle.lists.specs.Prelude.{Option, none, some}
+use Rattle.lists.specs.Prelude.{Bool, cond, not, _&&_, _||_, List, [], _∷_, _++_, flatten, ℕ, zero, suc, _+_, _-_, _*_, eqb, leb, ltb, ℤ, length, drop, begins}
+use Rattle.lists.specs.Prelude.{replicate, Option, none, some}
 use Rattle.gaps.specs.Gaps.{holdsGap}
 use Rattle.cartesian.specs.Cartesian.{distances}
 use Rattle.realization.specs.Realization.{realizable}
 use Rattle.catalogue.specs.Catalogue.{nextList}
 use Rattle.ranking.specs.Rank.{rank, unrank, isRank}
-use Rattle.pattern_set.specs.PatternSet.{setWords, isSet, patternsOf}
+use Rattle.pattern_set.specs.PatternSet.{setWords, isSet, patternsOf, without}
 use Rattle.matching.specs.Matching.{hits, hitWords, candidates}
 use Rattle.automaton_model.specs.Automaton.{nodes, automatonWords}
 use Rattle.answers.specs.declared.SearchState.{SearchState}
@@ -114,6 +114,16 @@ addEntry ws xs =
     let cs : Conditions = (1, eqb (length xs) 0) ∷ (2, ltb 256 (length xs)) ∷ (13, holdsGap xs) ∷ (5, not (isSet ws))
     ∷ (6, leb 64 (length ps) || ltb 4096 n) ∷ (10, ltb (length ws) (4 + length ps + n)) ∷ [] in
     record { conditions = cs; counts = (length ps + 1, n); result = setWords (ps ++ (distances xs ∷ [])) }
+
+-- withdrawing pattern j: higher numbers move down by one, and the words that the set no longer uses
+-- become 0. Document 02, 2.3
+abbrev pub withdrawEntry : List ℕ → ℕ → Entry (ℕ × ℕ) ℕ
+withdrawEntry ws j =
+    let ps = patternsOf ws in
+    let qs = without j ps in
+    let unused = length (setWords ps) - length (setWords qs) in
+    let cs : Conditions = (5, not (isSet ws)) ∷ (14, leb (length ps) j) ∷ [] in
+    record { conditions = cs; counts = (length qs, length (flatten qs)); result = setWords qs ++ replicate unused 0 }
 
 -- ---- Building the automaton, the stream search and the filter search.
 

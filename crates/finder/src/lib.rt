@@ -6,7 +6,7 @@ ghost use Rattle.answers.specs.Told.{toldWritten, toldNext, toldEncoded, toldSi
 ghost use Rattle.realization.specs.Realization.{leastRealization, failureLengths};
 ghost use Rattle.global_parents.specs.GlobalParents.{globalParents};
 ghost use Rattle.entries.specs.Entries.{told, after, distancesEntry, listEntry, encodeEntry, decodeEntry, emptySetEntry, checkEntry, addEntry, buildEntry};
-ghost use Rattle.entries.specs.Entries.{nextEntry, streamEntry, streamState, filterEntry};
+ghost use Rattle.entries.specs.Entries.{nextEntry, withdrawEntry, streamEntry, streamState, filterEntry};
 use answers::Built;
 use answers::Encoded;
 use answers::Filtered;
@@ -99,6 +99,15 @@ pub fn add_pattern(words: &mut [u32], values: &[i32]) -> SetSize
     ensures { λ _. ⌜ now (words .exit) ≡ after (addEntry (now (words .entry)) (now (values .entry))) (now (words .entry)) ⌝ }
 {
     set_arrays::add_pattern(words, values)
+}
+
+// Withdraws pattern j, in place: higher numbers move down by one, and the words that the set no
+// longer uses become 0; tells the size of the smaller set. Refuses 5 14.
+pub fn withdraw_pattern(words: &mut [u32], j: usize) -> SetSize
+    ensures { λ r. ⌜ toldSize r ≡ told (0, 0) (withdrawEntry (now (words .entry)) j) ⌝ }
+    ensures { λ _. ⌜ now (words .exit) ≡ after (withdrawEntry (now (words .entry)) j) (now (words .entry)) ⌝ }
+{
+    withdraw_pattern::withdraw_pattern(words, j)
 }
 
 // ---- automaton and searches

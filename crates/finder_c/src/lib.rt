@@ -5,7 +5,7 @@ ghost use Rattle.answers.specs.Told.{toldWritten, toldNext, toldEncoded, toldSi
 ghost use Rattle.realization.specs.Realization.{leastRealization, failureLengths};
 ghost use Rattle.global_parents.specs.GlobalParents.{globalParents};
 ghost use Rattle.entries.specs.Entries.{told, after, distancesEntry, listEntry, encodeEntry, decodeEntry, emptySetEntry, checkEntry, addEntry, buildEntry};
-ghost use Rattle.entries.specs.Entries.{nextEntry, streamEntry, streamState, filterEntry};
+ghost use Rattle.entries.specs.Entries.{nextEntry, withdrawEntry, streamEntry, streamState, filterEntry};
 ghost use Rattle.finder_c.specs.Told.{tellsWritten, tellsNext, tellsCode, tellsCounts, tellsStreamed};
 use answers::Built;
 use answers::Counts;
@@ -281,6 +281,15 @@ pub extern "C" fn finder_add_pattern(words: &mut [u32], values: &[i32]) -> Finde
     ensures { λ _. ⌜ now (words .exit) ≡ after (addEntry (now (words .entry)) (now (values .entry))) (now (words .entry)) ⌝ }
 {
     let s = finder::add_pattern(words, values);
+    sized(s)
+}
+
+#[no_mangle]
+pub extern "C" fn finder_withdraw_pattern(words: &mut [u32], j: usize) -> FinderCounts
+    ensures { λ r. ⌜ tellsCounts r ≡ told (0, 0) (withdrawEntry (now (words .entry)) j) ⌝ }
+    ensures { λ _. ⌜ now (words .exit) ≡ after (withdrawEntry (now (words .entry)) j) (now (words .entry)) ⌝ }
+{
+    let s = finder::withdraw_pattern(words, j);
     sized(s)
 }
 

@@ -2,22 +2,20 @@
 -- there is none the arrays begin with the words of the patterns' set and of its automaton. Each
 -- pattern makes a good set of the one before, and the arrays have room for all that an input may
 -- hold.
-use Rattle.lists.proofs.Prelude.{_≡_, _∙_, ap, sym, refl, subst, Bool, true, false, cond, _&&_, _||_, List, [], _∷_, _++_, map, append-nil, append-assoc}
-use Rattle.lists.proofs.Prelude.{flatten, ℕ, zero, suc, _+_, _*_, _≤_, _<_, ℤ, T, eqb, leb, ltb, leb-false, ltb-false, le→leb, length, length-append}
-use Rattle.lists.proofs.Prelude.{length-drop, drop, arith, le-ltb, all, begins, List·Memᴰ, List·Memᴰ·append-cases, List·Memᴰ·cases-cons, List·Memᴰ·not-nil, inl}
-use Rattle.lists.proofs.Prelude.{inr, _⊎_}
+use Rattle.lists.proofs.Prelude.{_≡_, _∙_, ap, sym, refl, subst, Bool, true, false, cond, _||_, List, [], _∷_, _++_, map, append-nil, append-assoc}
+use Rattle.lists.proofs.Prelude.{flatten, ℕ, zero, suc, _+_, _*_, _≤_, _<_, ℤ, T, eqb, leb, ltb, leb-false, ltb-false, length, length-append}
+use Rattle.lists.proofs.Prelude.{length-drop, drop, arith, le-ltb, all, begins}
 use Rattle.lists.proofs.Parts.{length-snoc}
 use Rattle.lists.proofs.Rows.{flatten-snoc}
-use Rattle.lists.proofs.Tests.{true-T, and-join}
+use Rattle.lists.proofs.Tests.{true-T}
 use Rattle.lists.proofs.Same.{begins-iff}
-use Rattle.lists.proofs.Members.{all-mem, mem-all}
 use Rattle.gaps.specs.Gaps.{holdsGap}
 use Rattle.cartesian.specs.Cartesian.{distances}
 use Rattle.cartesian.proofs.Seek.{length-distances}
-use Rattle.realization.specs.Realization.{Realizable, realizable}
+use Rattle.realization.specs.Realization.{Realizable}
 use Rattle.realization.proofs.Realizable.{realizable-iff}
 use Rattle.pattern_set.specs.PatternSet.{PatternSet, setWords, goodPattern, goodSet, isSet, patternsOf}
-use Rattle.pattern_set.proofs.Good.{goodSet-parts}
+use Rattle.pattern_set.proofs.Good.{goodPattern-is, good-more}
 use Rattle.pattern_set.proofs.Words.{length-setWords}
 use Rattle.pattern_set.proofs.IsSet.{isSet-words, patternsOf-words}
 use Rattle.automaton_model.specs.Automaton.{automatonWords}
@@ -25,44 +23,18 @@ use Rattle.entries.specs.Entries.{firstMet, unless, after, emptySetEntry, addEn
 use Rattle.hits_calls.specs.Prepared.{addAll, makeSet, makeBoth}
 use Rattle.hits_printed.specs.Printed.{refusalOf}
 
--- ---- a set with one pattern more
+-- ---- the distances of values are a good pattern
 
 good-values : (xs : List ℤ) → (eqb (length xs) 0 ≡ false) → length xs ≤ 256 → T (goodPattern (distances xs))
-unfolding goodPattern Realizable
+unfolding Realizable
 good-values xs n l =
     let d = length-distances xs in
     let some : 1 ≤ length xs = positive (length xs) n in
-    and-join (leb 1 (length (distances xs)) && leb (length (distances xs)) 256) (realizable (distances xs))
-    (and-join (leb 1 (length (distances xs))) (leb (length (distances xs)) 256)
-    (le→leb 1 (length (distances xs)) (omega (arith, d, some))) (le→leb (length (distances xs)) 256 (omega (arith, d, l))))
-    (realizable-iff (distances xs) .1 (xs, refl))
+    goodPattern-is (distances xs) (omega (arith, d, some)) (omega (arith, d, l)) (realizable-iff (distances xs) .1 (xs, refl))
   where
     positive : (n : ℕ) → eqb n 0 ≡ false → 1 ≤ n
     positive zero e = absurd (let t : T false = subst T e tt in t)
     positive (suc n) e = omega arith
-
-all-snoc : (ps : PatternSet) (p : List ℕ) → T (all goodPattern ps) → T (goodPattern p) → T (all goodPattern (ps ++ (p ∷ [])))
-all-snoc ps p a h = mem-all goodPattern (ps ++ (p ∷ [])) (λ q m. go q (List·Memᴰ·append-cases ps m))
-  where
-    go : (q : List ℕ) → List·Memᴰ q ps ⊎ List·Memᴰ q (p ∷ []) → T (goodPattern q)
-    go q (inl m) = all-mem goodPattern ps a q m
-    go q (inr m) = one (List·Memᴰ·cases-cons m)
-      where
-        one : (q ≡ p) ⊎ List·Memᴰ q [] → T (goodPattern q)
-        one (inl e) = subst (λ (r : List ℕ). T (goodPattern r)) (sym e) h
-        one (inr m) = absurd (List·Memᴰ·not-nil m)
-
-good-more : (ps : PatternSet) (p : List ℕ) → T (goodSet ps) → T (goodPattern p) → length ps < 64 → length (flatten ps) + length p ≤ 4096
-    → T (goodSet (ps ++ (p ∷ [])))
-unfolding goodSet
-good-more ps p g h k n =
-    let a = goodSet-parts ps g in
-    let qs = ps ++ (p ∷ []) in
-    let f : length (flatten qs) ≡ length (flatten ps) + length p = ap length (flatten-snoc ps p) ∙ length-append (flatten ps) p in
-    and-join (leb (length qs) 64 && leb (length (flatten qs)) 4096) (all goodPattern qs)
-    (and-join (leb (length qs) 64) (leb (length (flatten qs)) 4096)
-    (le→leb (length qs) 64 (omega (arith, length-snoc ps p, k))) (le→leb (length (flatten qs)) 4096 (omega (arith, f, n))))
-    (all-snoc ps p (a .2) h)
 
 -- ---- one pattern after the other
 

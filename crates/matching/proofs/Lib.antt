@@ -6,3 +6,4 @@ pub mod HitsOrder
 pub mod Heads
 pub mod HitWords
 pub mod Numbers
+pub mod Withdrawn

@@ -1,4 +1,5 @@
 -- The root of the crate's definitions.
 pub mod Matching
 pub mod HitList
+pub mod Withdrawn
 pub mod HeadLengths

@@ -1,4 +1,6 @@
 -- The root of the crate's laws.
 pub mod Words
+pub mod Offsets
 pub mod IsSet
 pub mod Good
+pub mod Without

@@ -29,6 +29,10 @@ pub words-count : (ps : PatternSet) (rest : List ℕ) → getD (setWords ps ++ r
 unfolding setWords
 words-count ps rest = refl
 
+pub words-one : (ps : PatternSet) (rest : List ℕ) → getD (setWords ps ++ rest) 1 0 ≡ length (flatten ps)
+unfolding setWords
+words-one ps rest = refl
+
 pub words-offset : (ps : PatternSet) (rest : List ℕ) (j : ℕ) → j ≤ length ps → getD (setWords ps ++ rest) (2 + j) 0 ≡ length (flatten (take j ps))
 unfolding setWords
 words-offset ps rest j h =

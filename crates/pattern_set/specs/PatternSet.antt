@@ -1,5 +1,6 @@
 -- Sets of patterns and the words they lie in. Document 01: Set.
-use Rattle.lists.specs.Prelude.{_≡_, Bool, true, cond, _&&_, List, [], _∷_, _++_, flatten, ℕ, _+_, _-_, leb, length, getD, take, drop, tabulate, all, begins}
+use Rattle.lists.specs.Prelude.{_≡_, Bool, true, cond, _&&_, List, [], _∷_, _++_, flatten, ℕ, suc, _+_, _-_, leb, length, getD, take, drop, tabulate, all}
+use Rattle.lists.specs.Prelude.{begins}
 use Rattle.realization.specs.Realization.{realizable}
 
 -- the patterns' distance lists; a pattern's number is its place
@@ -40,3 +41,7 @@ IsSet ws = isSet ws ≡ true
 -- the patterns of a set array; of any other array none
 unfoldable pub patternsOf : List ℕ → PatternSet
 patternsOf ws = cond (isSet ws) (patternsIn ws) []
+
+-- the set without pattern j: higher numbers move down by one. Document 02, 2.3
+unfoldable pub without : ℕ → PatternSet → PatternSet
+without j ps = take j ps ++ drop (suc j) ps

@@ -13,3 +13,4 @@ pub mod Taken
 pub mod Run
 pub mod Demands
 pub mod CatalogueWalk
+pub mod Withdrawing

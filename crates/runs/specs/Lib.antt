@@ -2,3 +2,4 @@
 pub mod ReferenceRun
 pub mod Demands
 pub mod CatalogueWalk
+pub mod Withdrawing

@@ -2,19 +2,18 @@
 -- rules. One way, the lists between the offsets, put end to end, are the array's distances, and
 -- their lengths add up to the offsets; the other way, the offsets of a good set are the lengths of
 -- its first patterns.
-use Rattle.lists.proofs.Prelude.{_≡_, _∙_, ap, sym, refl, subst, ap₂, Bool, true, false, _&&_, List, [], _∷_, _++_, append-nil, append-assoc, flatten, ℕ, zero}
-use Rattle.lists.proofs.Prelude.{suc, _+_, _-_, _≤_, _<_, T, leb, le→leb, length, getD, take, drop, length-append, length-drop, take-append-drop}
-use Rattle.lists.proofs.Prelude.{length-take-le, getD-take, getD-drop, drop-drop, ext-getD, take-add, take-length, add-one, arith, tabulate, all, begins}
-use Rattle.lists.proofs.Tests.{and-join}
+use Rattle.lists.proofs.Prelude.{_≡_, _∙_, ap, sym, refl, subst, ap₂, Bool, true, false, List, [], _∷_, _++_, append-nil, append-assoc, flatten, ℕ, zero}
+use Rattle.lists.proofs.Prelude.{suc, _+_, _-_, _≤_, _<_, T, length, getD, take, drop, length-append, length-drop, take-append-drop}
+use Rattle.lists.proofs.Prelude.{length-take-le, getD-take, getD-drop, drop-drop, ext-getD, take-add, take-length, add-one, arith, tabulate, begins}
 use Rattle.lists.proofs.Same.{begins-iff}
 use Rattle.lists.proofs.Tables.{length-tabulate, take-tabulate}
 use Rattle.lists.proofs.Members.{all-getD, mem-all, mem-table}
 use Rattle.lists.proofs.Rows.{flatten-tabulate, length-flatten-suc, flatten-nil, flatten-none}
 use Rattle.realization.specs.Realization.{realizable}
 use Rattle.pattern_set.specs.PatternSet.{PatternSet, offsets, setWords, goodPattern, goodSet, patternIn, patternsIn, isSet, patternsOf}
-use Rattle.pattern_set.proofs.Words.{length-offsets, length-setWords, getD-offsets, words-count, words-offset, patternIn-words}
+use Rattle.pattern_set.proofs.Words.{length-offsets, length-setWords, getD-offsets, words-count, words-one, words-offset, patternIn-words}
 use Rattle.pattern_set.proofs.IsSet.{begins-set, set-good, set-begins}
-use Rattle.pattern_set.proofs.Good.{goodPattern-parts, goodSet-parts}
+use Rattle.pattern_set.proofs.Good.{goodPattern-parts, goodSet-parts, goodPattern-is, goodSet-is}
 
 -- from each of the first k offsets to the next it is 1 to 256
 abbrev pub OffsetsRise : List ℕ → ℕ → Type 0
@@ -43,18 +42,6 @@ first-two : (ws : List ℕ) → 2 ≤ length ws → ws ≡ getD ws 0 0 ∷ getD 
 first-two [] h = absurd (let z : ⊥ = omega arith in z)
 first-two (a ∷ []) h = absurd (let z : ⊥ = omega arith in z)
 first-two (a ∷ b ∷ ws) h = refl
-
-goodPattern-is : (p : List ℕ) → 1 ≤ length p → length p ≤ 256 → T (realizable p) → T (goodPattern p)
-unfolding goodPattern
-goodPattern-is p a b r =
-    and-join (leb 1 (length p) && leb (length p) 256) (realizable p)
-    (and-join (leb 1 (length p)) (leb (length p) 256) (le→leb 1 (length p) a) (le→leb (length p) 256 b)) r
-
-goodSet-is : (ps : PatternSet) → length ps ≤ 64 → length (flatten ps) ≤ 4096 → T (all goodPattern ps) → T (goodSet ps)
-unfolding goodSet
-goodSet-is ps a b r =
-    and-join (leb (length ps) 64 && leb (length (flatten ps)) 4096) (all goodPattern ps)
-    (and-join (leb (length ps) 64) (leb (length (flatten ps)) 4096) (le→leb (length ps) 64 a) (le→leb (length (flatten ps)) 4096 b)) r
 
 setWords-is : (ps : PatternSet) → setWords ps ≡ length ps ∷ length (flatten ps) ∷ (offsets 0 ps ++ flatten ps)
 unfolding setWords
@@ -158,10 +145,6 @@ module _ (ws : List ℕ) (f : Follows ws) where
   follows-begins = begins-iff ws (setWords (patternsIn ws)) .1 (drop (3 + getD ws 0 0 + getD ws 1 0) ws, words-are)
 
 -- ---- the other way
-
-pub words-one : (ps : PatternSet) (rest : List ℕ) → getD (setWords ps ++ rest) 1 0 ≡ length (flatten ps)
-unfolding setWords
-words-one ps rest = refl
 
 module _ (ps : PatternSet) (rest : List ℕ) (g : T (goodSet ps)) where
   abbrev words : List ℕ
