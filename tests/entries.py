@@ -289,6 +289,12 @@ for n, c, room in ((4, 23, 4), (4, 17, 4), (4, 24, 4), (4, 23, 3), (0, 0, 4), (2
     case_decode(n, c, room)
 for c in range(121):
     case_decode(5, c, random.randint(4, 6))
+# the weight of every place, and the codes about the factorial of every length
+for n in range(1, 21):
+    case_encode([0] * (n - 1) + [int(n > 1)])
+    case_encode(list(range(n)))
+    for c in (factorial(n - 1) - 1, factorial(n - 1), factorial(n) - 1, factorial(n), factorial(n) + 1):
+        case_decode(n, c, n)
 
 # ---- sets
 for room in (0, 2, 3, 5):

@@ -1,5 +1,6 @@
--- The ways through the two loops, in the words of the code: what of a list is in the sum and what
--- is still to be ranked, and which distances of a code are written already.
+-- The ways through the loops, in the words of the code: which factorial the product is, what of a
+-- list is in the sum and what is still to be ranked, and which distances of a code are written
+-- already.
 use Rattle.lists.proofs.Prelude.{_≡_, _∙_, ap, sym, refl, subst, true, List, [], _∷_, _++_, ℕ, zero, suc, _+_, _*_, _/_, _%_, _^_, _≤_, _<_, T, length, getD}
 use Rattle.lists.proofs.Prelude.{drop, set, drop-of-length-le, drop-cons, mod-lt, mul-le-mul-right, add-one, decLt, arith}
 use Rattle.lists.proofs.Tables.{tabulate-more}
@@ -8,7 +9,7 @@ use Rattle.realization.proofs.Realizable.{realizable-iff, realizable-ok}
 use Rattle.ranking.specs.Rank.{factorial, rankFrom, rank, unrank}
 use Rattle.ranking.proofs.Rank.{rank-lt}
 
--- ---- ranking
+-- ---- the product
 
 factorial-le : (m n : ℕ) → m ≤ n → factorial m ≤ factorial n
 unfolding factorial
@@ -19,13 +20,24 @@ factorial-le m (suc n) h = go (decLt m (suc n)) (factorial-le m n)
     go (yes l) ih = omega (arith, ih (omega arith), mul-le-mul-right {m = 1} {n = suc n} (factorial n) (omega arith))
     go (no g) ih = let e : m ≡ suc n = omega arith in rw e (omega arith)
 
+-- 20! fits 64 bits, and so does every factorial before it
+pub factorial-fits : (i : ℕ) → i ≤ 20 → factorial i < 2 ^ 64
+unfolding factorial
+factorial-fits i h =
+    let le : factorial i ≤ 2432902008176640000 = factorial-le i 20 h in
+    omega arith
+
+-- a turn takes one factor more to the product
+pub factorial-goes-on : (f i : ℕ) → f ≡ factorial i → f * (i + 1) ≡ factorial (i + 1)
+unfolding factorial
+factorial-goes-on f i p = rw (add-one i, p) (omega arith)
+
+-- ---- ranking
+
 -- the rank of at most 20 distances fits 64 bits, since 20! does
 pub rank-fits : (ds : List ℕ) → length ds ≤ 20 → realizable ds ≡ true → rank ds < 2 ^ 64
-unfolding factorial
 rank-fits ds h r =
-    let lt = rank-lt ds (realizable-ok ds (realizable-iff ds .0 (subst T (sym r) tt))) in
-    let le : factorial (length ds) ≤ 2432902008176640000 = factorial-le (length ds) 20 h in
-    omega arith
+    omega (arith, rank-lt ds (realizable-ok ds (realizable-iff ds .0 (subst T (sym r) tt))), factorial-fits (length ds) h)
 
 -- before the loop every place from 1 on is left
 pub rank-starts : (ds : List ℕ) → 0 < length ds → rank ds ≡ 0 + rankFrom 1 (drop 1 ds)

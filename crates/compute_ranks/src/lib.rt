@@ -1,40 +1,29 @@
 // The code of a list of parent distances in the factorial number system, and back. Document 01:
-// Code.
-ghost use Rattle.lists.specs.Prelude.{_≡_, true, _++_, suc, _/_, _%_, _≤_, _<_, length, drop};
+// Code. Document 02, 2.4.
+ghost use Rattle.lists.specs.Prelude.{_≡_, true, _++_, suc, _+_, _/_, _%_, _≤_, _<_, length, drop};
 ghost use Rattle.ranking.specs.Rank.{factorial, rank, unrank};
 ghost use Rattle.realization.specs.Realization.{realizable};
 
-// 0! to 20!, all the factorials that 64 bits hold.
-const FACTORIALS: [u64; 21] = [
-    1,
-    1,
-    2,
-    6,
-    24,
-    120,
-    720,
-    5040,
-    40320,
-    362880,
-    3628800,
-    39916800,
-    479001600,
-    6227020800,
-    87178291200,
-    1307674368000,
-    20922789888000,
-    355687428096000,
-    6402373705728000,
-    121645100408832000,
-    2432902008176640000,
-];
+// The factorial of i + 1 from that of i. 20! is the largest that 64 bits hold, and the last.
+fn next_factorial(f: u64, i: usize) -> u64
+    requires { ⌜ (i < 20) × (f ≡ factorial i) ⌝ }
+    ensures { λ r. ⌜ r ≡ factorial (i + 1) ⌝ }
+{
+    f * (i as u64 + 1)
+}
 
-// The weight of place i.
+// The factorial of i.
 pub fn factorial_at(i: usize) -> u64
     requires { ⌜ i ≤ 20 ⌝ }
     ensures { λ r. ⌜ r ≡ factorial i ⌝ }
 {
-    FACTORIALS[i]
+    let mut product: u64 = 1;
+    let mut k = 0;
+    while k < i {
+        product = next_factorial(product, k);
+        k += 1;
+    }
+    product
 }
 
 // The same number, 64 bits wide.
@@ -50,23 +39,23 @@ pub fn rank_of(ds: &[u32]) -> u64
     ensures { λ r. ⌜ r ≡ rank (now (ds .entry)) ⌝ }
 {
     let mut sum: u64 = 0;
+    let mut f: u64 = 1;
     let mut i = 1;
     while i < ds.len() {
         let d = wide(ds[i]);
-        let f = factorial_at(i);
         sum += d * f;
+        f = next_factorial(f, i);
         i += 1;
     }
     sum
 }
 
 // The distance at place i of a code: the digit of weight i!, which goes up to i.
-fn digit_at(code: u64, i: usize) -> u64
-    requires { ⌜ i ≤ 20 ⌝ }
+fn digit_at(code: u64, weight: u64, i: usize) -> u64
+    requires { ⌜ (i ≤ 20) × (weight ≡ factorial i) ⌝ }
     ensures { λ r. ⌜ r ≡ code / factorial i % suc i ⌝ }
 {
-    let f = factorial_at(i);
-    (code / f) % (i as u64 + 1)
+    (code / weight) % (i as u64 + 1)
 }
 
 // The n distances of a code, written to the front of out; the words behind them stay as they were.
@@ -74,10 +63,12 @@ pub fn digits_of(n: usize, code: u64, out: &mut [u32])
     requires { ⌜ (n ≤ 20) × (n ≤ length (now out)) ⌝ }
     ensures { λ _. ⌜ now (out .exit) ≡ unrank n code ++ drop n (now (out .entry)) ⌝ }
 {
+    let mut weight: u64 = 1;
     let mut i: usize = 0;
     while i < n {
-        let d = digit_at(code, i);
+        let d = digit_at(code, weight, i);
         out[i] = d as u32;
+        weight = next_factorial(weight, i);
         i += 1;
     }
 }

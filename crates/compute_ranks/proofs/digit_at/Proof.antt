@@ -5,11 +5,8 @@ use Rattle.compute_ranks.proofs.Laws.{digit-is}
 use Rattle.compute_ranks.proofs.digit_at.Statement.{statement}
 use Rattle.compute_ranks.proofs.digit_at.Tie as tie
 
-factorial-at-requires : tie.Need-factorial-at-requires
-factorial-at-requires c κs = search needs
-
 div-result : tie.Need-div-result
-div-result c = rw (c .factorial-at .ensures) (factorial-pos (c .before .args .i))
+div-result c = rw (c .pre .1) (factorial-pos (c .args .i))
 
 add-result : tie.Need-add-result
 add-result c = search needs
@@ -18,7 +15,7 @@ rem-result : tie.Need-rem-result
 rem-result c = search needs
 
 returns : tie.Need-returns
-returns c = digit-is _ _ _ _ (c .factorial-at .ensures) (omega arith)
+returns c = digit-is _ _ _ _ (c .pre .1) (omega arith)
 
 pub digit-at-spec : {M : Type 1} → statement M
-digit-at-spec = tie.close (tie.spec factorial-at-requires div-result add-result rem-result returns)
+digit-at-spec = tie.close (tie.spec div-result add-result rem-result returns)

@@ -1,19 +1,19 @@
--- The first i words are the first i distances of the code, and the words from i on are as they
--- came.
+-- The weight is that of place i. The first i words are the first i distances of the code, and the
+-- words from i on are as they came.
 use Rattle.lists.proofs.Prelude.{_≡_, _∙_, _++_, _-_, _≤_, length, drop, length-set, arith, needs, tabulate}
-use Rattle.ranking.specs.Rank.{unrank}
+use Rattle.ranking.specs.Rank.{factorial, unrank}
 use Rattle.compute_ranks.proofs.Laws.{digit-fits, unrank-goes-on}
 use Rattle.compute_ranks.proofs.digits_of.Statement.{statement}
 use Rattle.compute_ranks.proofs.digits_of.Tie as tie
 
 abbrev Inv-loop : tie.InvT-loop
-Inv-loop n code out₀ i₀ out i = (i ≤ n) × (length out ≡ length out₀) × (out ≡ unrank i code ++ drop i out₀)
+Inv-loop n code out₀ weight₀ i₀ out weight i = (i ≤ n) × (length out ≡ length out₀) × (weight ≡ factorial i) × (out ≡ unrank i code ++ drop i out₀)
 
 abbrev μ-loop : tie.MeasureT-loop
-μ-loop n code out₀ i₀ out i = length out₀ - i
+μ-loop n code out₀ weight₀ i₀ out weight i = length out₀ - i
 
 loop-holds : tie.Need-loop-holds Inv-loop μ-loop
-unfolding unrank tabulate
+unfolding unrank tabulate factorial
 loop-holds c = search needs
 
 digit-at-requires : tie.Need-digit-at-requires Inv-loop μ-loop
@@ -30,6 +30,9 @@ mul-out c = search needs
 slice-write-out : tie.Need-slice-write-out Inv-loop μ-loop
 slice-write-out c = search needs
 
+next-factorial-requires : tie.Need-next-factorial-requires Inv-loop μ-loop
+next-factorial-requires c κs = search needs
+
 add-i : tie.Need-add-i Inv-loop μ-loop
 add-i c = search needs
 
@@ -38,11 +41,13 @@ loop-less c = search needs
 
 loop-again : tie.Need-loop-again Inv-loop μ-loop
 loop-again c =
-    let L = c .before .before .loop in
-    let st = c .before .before .before .before in (
+    let L = c .before .before .before .loop in
+    let st = c .before .before .before .before .before in
+    let v = c .before .digit-at .result in (
       omega arith,
-      length-set (L .out) (L .i) (c .digit-at .result) ∙ L .inv .1,
-      unrank-goes-on (st .args .out .now) (L .out) (st .args .code) (L .i) (c .digit-at .result) (omega arith) (L .inv .2) (c .digit-at .ensures),
+      length-set (L .out) (L .i) v ∙ L .inv .1,
+      c .next-factorial .ensures,
+      unrank-goes-on (st .args .out .now) (L .out) (st .args .code) (L .i) v (omega arith) (L .inv .3) (c .before .digit-at .ensures),
     )
 
 same-length : tie.Need-same-length Inv-loop μ-loop
@@ -51,7 +56,7 @@ same-length c = c .before .loop .inv .1
 returns : tie.Need-returns Inv-loop μ-loop
 returns c =
     let e : c .before .loop .i ≡ c .before .before .before .args .n = omega arith in
-    rw e at (c .before .loop .inv .2)
+    rw e at (c .before .loop .inv .3)
 
 pub digits-of-spec : {M : Type 1} → statement M
 digits-of-spec =
@@ -64,6 +69,7 @@ digits-of-spec =
     cast-out
     mul-out
     slice-write-out
+    next-factorial-requires
     add-i
     loop-less
     loop-again
