@@ -1,6 +1,7 @@
 /* Measures the finder's searches beside plain implementations of the same jobs, on the same texts and sets.
  *
  * bench            all data sets and sets of patterns: CPU time, best of up to nine runs, in nanoseconds a value
+ * bench first      what a first hit costs, at the front of a text and where there is none
  * bench count E D S N   runs engine E once over N values of data set D with set S, for a counter of instructions
  */
 #include <stdio.h>
@@ -182,6 +183,56 @@ static double call_cost(void)
     return (seconds() - t) * 1e6 / 50;
 }
 
+/* ---- the first hit */
+
+/* The best time of a call over the first n values, in nanoseconds; the call must find a hit that ends where it should, or none. */
+static double first_cost(size_t n, size_t read, uint32_t found)
+{
+    double best = 1e18;
+    size_t calls = n > 4096 && !found ? 1 : 100;
+    for (int round = 0; round < ROUNDS; round++) {
+        double t = seconds();
+        for (size_t i = 0; i < calls; i++) {
+            FinderFirstHit f = finder_first_hit(set, 8192, automaton, 16 * 4097, text, n);
+            if (f.refusal || f.found != found || f.read != read)
+                exit(1);
+        }
+        t = (seconds() - t) * 1e9 / (double)calls;
+        if (t < best)
+            best = t;
+    }
+    return best;
+}
+
+/* A text without a hit: it falls, and each pattern rises somewhere. */
+static void make_falling(void)
+{
+    for (size_t i = 0; i < LONGEST; i++)
+        text[i] = -(int32_t)i;
+}
+
+/* Patterns of a walk; the text begins with the values of the first of them. */
+static void first_times(int s)
+{
+    double ns = 1e18;
+    make_text(1, LONGEST);
+    make_set(s, LONGEST);
+    memcpy(text, patterns.values[0], patterns.length[0] * sizeof *text);
+    size_t read = finder_first_hit(set, 8192, automaton, 16 * 4097, text, LONGEST).read;
+    double alone = first_cost(read, read, 1), front = first_cost(LONGEST, read, 1);
+    make_falling();
+    double none = first_cost(LONGEST, LONGEST, 0);
+    for (int round = 0; round < ROUNDS; round++) {
+        double t = seconds();
+        if (run_engine(0, LONGEST))
+            exit(1);
+        t = (seconds() - t) * 1e9;
+        if (t < ns)
+            ns = t;
+    }
+    printf("| %s | %zu | %.2f | %.2f | %.1f | %.1f |\n", set_of[s].name, read, alone / 1000, front / 1000, none / LONGEST, ns / LONGEST);
+}
+
 int main(int argc, char **argv)
 {
     hits = malloc((size_t)HIT_WORDS * sizeof *hits);
@@ -194,6 +245,12 @@ int main(int argc, char **argv)
         plain_a = plain_automaton(&patterns);
         plain_f = plain_filter(&patterns);
         printf("%zu\n", run_engine(atoi(argv[2]), n));
+        return 0;
+    }
+    if (argc == 2 && !strcmp(argv[1], "first")) {
+        printf("| set | values read | front alone us | whole text us | no hit | stream |\n|---|---|---|---|---|---|\n");
+        for (int s = 3; s < 9; s++) /* of 16 and of 64 values: long enough to rise somewhere */
+            first_times(s);
         return 0;
     }
     printf("| data | set | hits | stream | Aho-Corasick | ratio | filter | one-pass filter | ratio | tight | windows | attempts | call us |\n");

@@ -91,6 +91,15 @@ typedef struct {
     size_t attempts;
 } FinderStreamed;
 
+/* Refusal; 1 where there is a hit and 0 where there is none; the hit's last place and pattern number; the values read. */
+typedef struct {
+    uint32_t refusal;
+    uint32_t found;
+    size_t last;
+    size_t pattern;
+    size_t read;
+} FinderFirstHit;
+
 /* ---- one pattern */
 
 /* Writes the parent distances of n values: at place i it is i - j for the greatest j below i whose value is not above that at i,
@@ -152,6 +161,12 @@ FinderState finder_new_search(void);
  * 8, 9, 10 (hits_room < 2 * patterns). */
 FinderStreamed finder_stream_search(const uint32_t *set, size_t set_words, const uint32_t *automaton, size_t automaton_words,
                                     FinderState state, const int32_t *values, size_t n, uint32_t *hits, size_t hits_room);
+
+/* Tells the first hit of a whole text, the first of the list that the searches write: by last place, longer pattern first, then
+ * lower number. Reads up to and with its last place, and nothing behind it; where there is no hit, all. Writes nothing. Refuses 1,
+ * 5, 7, 9. */
+FinderFirstHit finder_first_hit(const uint32_t *set, size_t set_words, const uint32_t *automaton, size_t automaton_words,
+                                const int32_t *text, size_t n);
 
 /* Writes all hits of a whole text, the same list; tells the hits (first) and the candidates (second). A candidate is a pair of a
  * pattern and a window within the text, without a gap, whose last b values fall at the same places (they have one fingerprint),

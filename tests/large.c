@@ -1,9 +1,12 @@
 /* Sizes that no test program of the gate holds, tried through the C interface: texts of 1,048,576 values, full sets, and arrays
- * that are far longer than what is written to them. Hits of both searches are compared with a plain listing, window by window.
+ * that are far longer than what is written to them. Hits of both searches and the first hit are compared with a plain listing, window
+ * by window, and the first hit is looked for where nothing behind it can be read.
  * Prints how many checks there were and how many of them went wrong. */
 #include <stdio.h>
 #include <stdlib.h>
 #include <string.h>
+#include <sys/mman.h>
+#include <unistd.h>
 
 #include "finder.h"
 
@@ -150,6 +153,23 @@ static int filter_refuses(const uint32_t *set, size_t set_words, const int32_t *
     return f.refusal == number && f.first == 0 && f.second == 0 && held(out, 0, room) == room;
 }
 
+/* The first hit of the text is the first of the list, or none, and the values read are those up to it, or all. */
+static int finds_first(const uint32_t *set, size_t set_words, const uint32_t *automaton, size_t automaton_words, const int32_t *text,
+                       size_t n, const uint32_t *list, size_t listed)
+{
+    FinderFirstHit f = finder_first_hit(set, set_words, automaton, automaton_words, text, n);
+    if (listed == 0)
+        return f.refusal == 0 && f.found == 0 && f.last == 0 && f.pattern == 0 && f.read == n;
+    return f.refusal == 0 && f.found == 1 && f.last == list[0] && f.pattern == list[1] && f.read == (size_t)list[0] + 1;
+}
+
+static int first_refuses(const uint32_t *set, size_t set_words, const uint32_t *automaton, size_t automaton_words, const int32_t *text,
+                         size_t n, uint32_t number)
+{
+    FinderFirstHit f = finder_first_hit(set, set_words, automaton, automaton_words, text, n);
+    return f.refusal == number && f.found == 0 && f.last == 0 && f.pattern == 0 && f.read == 0;
+}
+
 static void whole_text(void)
 {
     static const int32_t patterns[3][4] = {{1, 3, 2, 2}, {2, 1, 2, 0}, {5, 5, 0, 0}};
@@ -192,6 +212,12 @@ static void whole_text(void)
     check(filter_refuses(set, SET, text, LONGEST + 1, out, room, room, 9), "1,048,577 values are 9");
     check(filter_refuses(set, SET, text, LONGEST + 1, out, 0, room, 9), "and 9 before 11");
 
+    check(finds_first(set, SET, automaton, AUTOMATON, text, LONGEST, plain, listed), "the first hit of 1,048,576 values is the plain listing's");
+    check(first_refuses(set, SET, automaton, AUTOMATON, text, LONGEST + 1, 9), "1,048,577 values are 9, though a hit is at the front");
+    check(first_refuses(set, SET, automaton, AUTOMATON - 1, text, LONGEST + 1, 9), "an automaton array may be longer than the automaton");
+    check(first_refuses(set, SET, automaton, built.second - 1, text, LONGEST + 1, 7), "and 7 before 9");
+    check(first_refuses(set, 4, automaton, 0, text, LONGEST + 1, 5), "and 5 before 7");
+
     check(refuses(set, SET, automaton, AUTOMATON, finder_new_search(), text, LONGEST + 1, out, 64, 9), "1,048,577 values in a first call are 9");
     FinderState part = after(set, SET, automaton, AUTOMATON, text, 1000000, 4096, run, &count, &good);
     check(good && memcmp(run, plain, 2 * count * sizeof *plain) == 0, "1,000,000 values in calls over a longer hit array");
@@ -212,6 +238,17 @@ static void whole_text(void)
     FinderState over = last;
     over.taken = LONGEST + 1;
     check(refuses(set, SET, automaton, AUTOMATON, over, text, 0, out, 6, 8), "a state with 1,048,577 values taken is 8");
+
+    /* values that only fall have no hit of the three patterns */
+    for (size_t i = 0; i < LONGEST; i++)
+        text[i] = -(int32_t)i;
+    check(list_plainly(set, text, 2000, out) == 0, "falling values have no hit");
+    check(finds_first(set, SET, automaton, AUTOMATON, text, LONGEST, plain, 0), "of 1,048,576 values without a hit all are read");
+    text[LONGEST - 1] = text[LONGEST - 2];
+    plain[0] = LONGEST - 1;
+    plain[1] = 1; /* pattern 2 ends there, too, and is shorter */
+    check(finds_first(set, SET, automaton, AUTOMATON, text, LONGEST, plain, 1), "a hit at the last of 1,048,576 places is found");
+    check(finds_first(set, SET, automaton, AUTOMATON, text, LONGEST - 1, plain, 0), "and is not one of the values before");
     free(text);
     free(plain);
     free(run);
@@ -283,6 +320,7 @@ static void full_set(void)
     check(f.refusal == 0 && f.first == listed && memcmp(out, plain, 2 * listed * sizeof *plain) == 0, "and so does a filter search");
     check(held(out, 2 * listed, ROOM) == ROOM, "words behind its hits keep their values");
     check(filter_refuses(set, USED, text, TEXT, out, 2 * listed - 1, ROOM, 11), "one word less is 11");
+    check(finds_first(set, USED, automaton, c.second, text, TEXT, plain, listed), "the first hit over the full set is the plain listing's");
     check(refuses(set, USED, automaton, c.second, finder_new_search(), text, TEXT, out, 127, 10), "a hit array of 127 words is 10");
     check(refuses(set, USED, automaton, c.second - 1, finder_new_search(), text, TEXT, out, 128, 7), "an automaton without its last word is 7");
 
@@ -330,7 +368,33 @@ static void only_gaps(void)
     check(refuses(set, 5, automaton, 32, s.state, text, 1, hits, 2, 9), "and one gap more is 9");
     c = finder_filter_search(set, 5, text, LONGEST, hits, 0);
     check(c.refusal == 0 && c.first == 0 && c.second == 0, "a filter search has no hit and no candidate");
+    check(finds_first(set, 5, automaton, 32, text, LONGEST, hits, 0), "and there is no first hit");
     free(text);
+}
+
+/* The first hit ends with the last value of a page, and the pages behind it cannot be read: a search that reads on ends this
+ * program. */
+static void front_only(void)
+{
+    static const int32_t peak[3] = {1, 3, 2};
+    uint32_t set[16], automaton[64];
+    size_t page = (size_t)sysconf(_SC_PAGESIZE), front = page / sizeof(int32_t), bytes = LONGEST * sizeof(int32_t);
+    uint32_t list[2] = {(uint32_t)front - 1, 0};
+    int32_t *text = mmap(NULL, bytes, PROT_READ | PROT_WRITE, MAP_PRIVATE | MAP_ANONYMOUS, -1, 0);
+
+    if (text == MAP_FAILED) {
+        check(0, "there is memory for a text");
+        return;
+    }
+    for (size_t i = 0; i < front; i++)
+        text[i] = -(int32_t)i;
+    memcpy(text + front - 2, peak + 1, 2 * sizeof *text);
+    check(mprotect(text + front, bytes - page, PROT_NONE) == 0, "the pages behind the first can be shut");
+    finder_empty_set(set, 16);
+    finder_add_pattern(set, 16, peak, 3);
+    finder_build_automaton(set, 16, automaton, 64);
+    check(finds_first(set, 16, automaton, 64, text, LONGEST, list, 1), "nothing behind the first hit is read");
+    munmap(text, bytes);
 }
 
 int main(void)
@@ -338,6 +402,7 @@ int main(void)
     whole_text();
     full_set();
     only_gaps();
+    front_only();
     printf("%u checks, %u wrong\n", checks, wrong);
     return wrong != 0;
 }

@@ -295,26 +295,73 @@ pub struct Found {
     pub candidates: usize,
 }
 
+/// A set with its automaton: what a search for the patterns of the set needs. It is built once, and any number of searches go
+/// over it.
+///
+/// ```
+/// use finder::{Automaton, FirstHit, Hit, Set};
+/// let mut set = Set::new();
+/// set.add(&[1, 2, 3])?;
+/// set.add(&[2, 1])?;
+/// let automaton = Automaton::new(&set)?;
+/// let first = automaton.first_hit(&[4, 5, 5, 3, 6, 7])?;
+/// assert_eq!(first, FirstHit { hit: Some(Hit { last: 2, pattern: 0 }), read: 3 });
+/// assert_eq!(automaton.first_hit(&[4, 5])?, FirstHit { hit: None, read: 2 });
+/// # Ok::<(), finder::Refusal>(())
+/// ```
+#[derive(Clone, Debug, PartialEq, Eq)]
+pub struct Automaton {
+    set: Set,
+    words: Vec<u32>,
+}
+
+/// The first hit of a whole text.
+#[derive(Clone, Copy, Debug, PartialEq, Eq)]
+pub struct FirstHit {
+    /// The first of the hits by last place, longer pattern first, then lower number, if there is one.
+    pub hit: Option<Hit>,
+    /// The values read: up to and with the hit's last place, or all where there is none.
+    pub read: usize,
+}
+
+impl Automaton {
+    /// The automaton of a set.
+    pub fn new(set: &Set) -> Result<Automaton, Refusal> {
+        let mut words = vec![0; 16 * (1 + set.words[1] as usize)];
+        let built = raw::build_automaton(&set.words, &mut words);
+        Refusal::check(built.refusal)?;
+        words.truncate(built.second);
+        Ok(Automaton { set: set.clone(), words })
+    }
+
+    /// The first hit of a whole text. Nothing behind its last place is read.
+    pub fn first_hit(&self, text: &[i32]) -> Result<FirstHit, Refusal> {
+        let answer = raw::first_hit(&self.set.words, &self.words, text);
+        Refusal::check(answer.refusal)?;
+        let hit = Hit { last: answer.last as u32, pattern: answer.pattern as u32 };
+        Ok(FirstHit { hit: (answer.found == 1).then_some(hit), read: answer.read })
+    }
+
+    /// A new search over a text that comes in pieces.
+    pub fn search(&self) -> Search {
+        let buffer = vec![0; 2 * self.set.len().max(512)];
+        Search { automaton: self.clone(), state: raw::new_search(), buffer, attempts: 0 }
+    }
+}
+
 /// A search over a text that comes in pieces. Its memory does not grow with the text.
 #[derive(Clone)]
 pub struct Search {
-    set: Set,
-    automaton: Vec<u32>,
+    automaton: Automaton,
     state: raw::State,
     buffer: Vec<u32>,
     attempts: u64,
 }
 
 impl Search {
-    /// A new search for the patterns of a set.
+    /// A new search for the patterns of a set, whose automaton it builds.
     pub fn new(set: &Set) -> Result<Search, Refusal> {
-        let room = 16 * (1 + set.words[1] as usize);
-        let mut automaton = vec![0; room];
-        let built = raw::build_automaton(&set.words, &mut automaton);
-        Refusal::check(built.refusal)?;
-        automaton.truncate(built.second);
-        let buffer = vec![0; 2 * set.len().max(512)];
-        Ok(Search { set: set.clone(), automaton, state: raw::new_search(), buffer, attempts: 0 })
+        Ok(Automaton::new(set)?.search())
     }
 
     /// Takes the next values of the text; the hits that end at them. Places count from the start of the text. A refused call has
@@ -322,8 +369,9 @@ impl Search {
     pub fn feed(&mut self, values: &[i32]) -> Result<Vec<Hit>, Refusal> {
         let mut hits = Vec::new();
         let mut rest = values;
+        let Automaton { set, words } = &self.automaton;
         loop {
-            let answer = raw::stream_search(&self.set.words, &self.automaton, self.state, rest, &mut self.buffer);
+            let answer = raw::stream_search(&set.words, words, self.state, rest, &mut self.buffer);
             Refusal::check(answer.refusal)?;
             hits.extend(hits_of(&self.buffer[..2 * answer.hits]));
             self.state = answer.state;

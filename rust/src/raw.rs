@@ -80,8 +80,24 @@ pub struct Streamed {
     pub attempts: usize,
 }
 
+/// The first hit of a text.
+#[derive(Clone, Copy, Debug)]
+#[repr(C)]
+pub struct FirstHit {
+    /// Refusal.
+    pub refusal: u32,
+    /// 1 where there is a hit and 0 where there is none.
+    pub found: u32,
+    /// The hit's last place.
+    pub last: usize,
+    /// Its pattern's number.
+    pub pattern: usize,
+    /// Values read.
+    pub read: usize,
+}
+
 mod c {
-    use super::{Code, Counts, NextList, State, Streamed, Written};
+    use super::{Code, Counts, FirstHit, NextList, State, Streamed, Written};
     extern "C" {
         pub fn finder_distances(v: *const i32, n: usize, out: *mut u32, room: usize) -> Written;
         pub fn finder_least_realization(d: *const u32, n: usize, out: *mut i32, room: usize) -> Written;
@@ -100,6 +116,9 @@ mod c {
             set: *const u32, n: usize, automaton: *const u32, a: usize, state: State, v: *const i32, m: usize,
             hits: *mut u32, room: usize,
         ) -> Streamed;
+        pub fn finder_first_hit(
+            set: *const u32, n: usize, automaton: *const u32, a: usize, v: *const i32, m: usize,
+        ) -> FirstHit;
         pub fn finder_filter_search(
             set: *const u32, n: usize, v: *const i32, m: usize, hits: *mut u32, room: usize,
         ) -> Counts;
@@ -180,6 +199,15 @@ pub fn stream_search(set: &[u32], automaton: &[u32], state: State, values: &[i32
         c::finder_stream_search(
             set.as_ptr(), set.len(), automaton.as_ptr(), automaton.len(), state, values.as_ptr(), values.len(),
             hits.as_mut_ptr(), hits.len(),
+        )
+    }
+}
+
+/// The first hit of a whole text.
+pub fn first_hit(set: &[u32], automaton: &[u32], text: &[i32]) -> FirstHit {
+    unsafe {
+        c::finder_first_hit(
+            set.as_ptr(), set.len(), automaton.as_ptr(), automaton.len(), text.as_ptr(), text.len(),
         )
     }
 }

@@ -9,7 +9,9 @@ use Rattle.answers.specs.declared.Built.{Built}
 use Rattle.answers.specs.declared.Filtered.{Filtered}
 use Rattle.answers.specs.declared.StreamAnswer.{StreamAnswer}
 use Rattle.answers.specs.declared.Counts.{Counts}
-use Rattle.answers.specs.Told.{number, toldWritten, toldNext, toldEncoded, toldSize, toldBuilt, toldFiltered, toldStreamed}
+use Rattle.answers.specs.declared.FirstHit.{FirstHit}
+use Rattle.answers.specs.declared.Hit.{Hit}
+use Rattle.answers.specs.Told.{number, toldWritten, toldNext, toldEncoded, toldSize, toldBuilt, toldFiltered, toldStreamed, toldFirst}
 use Rattle.answers.proofs.Refusals.{refusalOf, number-refusal, number-positive}
 
 -- a map that can be undone is injective
@@ -91,3 +93,19 @@ toldStreamed-injective = undo toldStreamed (λ (w : ℕ × (ℕ × ℕ × ℕ ×
     back (StreamAnswer.Ended c) = refl
     back (StreamAnswer.Full c) = refl
     back (StreamAnswer.Refused r) = choose-refused r (chooseEnd 0 (countsOf (number r, (0, 0, 0, 0)))) StreamAnswer.Refused
+
+-- a hit or none
+abbrev chooseHit : ℕ → Hit → FirstHit
+chooseHit zero h = FirstHit.NoHit (h .read)
+chooseHit (suc n) h = FirstHit.Found h
+
+abbrev hitOf : ℕ × (ℕ × ℕ × ℕ × ℕ) → Hit
+hitOf w = record { last = w .1 .1; pattern = w .1 .2; read = w .1 .3 }
+
+pub toldFirst-injective : (a b : FirstHit) → toldFirst a ≡ toldFirst b → a ≡ b
+toldFirst-injective = undo toldFirst (λ (w : ℕ × (ℕ × ℕ × ℕ × ℕ)). choose (w .0) (chooseHit (w .1 .0) (hitOf w)) FirstHit.Refused) back
+  where
+    back : (a : FirstHit) → choose (toldFirst a .0) (chooseHit (toldFirst a .1 .0) (hitOf (toldFirst a))) FirstHit.Refused ≡ a
+    back (FirstHit.Found h) = refl
+    back (FirstHit.NoHit n) = refl
+    back (FirstHit.Refused r) = choose-refused r (chooseHit 0 (hitOf (number r, (0, 0, 0, 0)))) FirstHit.Refused

@@ -2,7 +2,7 @@
 -- and the counts, 0 where it is refused.
 use Rattle.lists.specs.Prelude.{ℕ, pos, replicate}
 use Rattle.answers.specs.declared.{Refusal.{Refusal}, Written.{Written}, NextList.{NextList}, Encoded.{Encoded}, SetSize.{SetSize}, Built.{Built}}
-use Rattle.answers.specs.declared.{Filtered.{Filtered}, StreamAnswer.{StreamAnswer}, SearchState.{SearchState}}
+use Rattle.answers.specs.declared.{Filtered.{Filtered}, StreamAnswer.{StreamAnswer}, FirstHit.{FirstHit}, SearchState.{SearchState}}
 
 -- Document 01: When the finder declines; from 12 on document 02
 abbrev pub number : Refusal → ℕ
@@ -57,6 +57,13 @@ abbrev pub toldStreamed : StreamAnswer → ℕ × (ℕ × ℕ × ℕ × ℕ)
 toldStreamed (StreamAnswer.Ended c) = (0, (1, c .taken, c .hits, c .attempts))
 toldStreamed (StreamAnswer.Full c) = (0, (0, c .taken, c .hits, c .attempts))
 toldStreamed (StreamAnswer.Refused r) = (number r, (0, 0, 0, 0))
+
+-- refusal; 1 where there is a hit and 0 where there is none; its last place, its pattern number and
+-- the values read
+abbrev pub toldFirst : FirstHit → ℕ × (ℕ × ℕ × ℕ × ℕ)
+toldFirst (FirstHit.Found h) = (0, (1, h .last, h .pattern, h .read))
+toldFirst (FirstHit.NoHit n) = (0, (0, 0, 0, n))
+toldFirst (FirstHit.Refused r) = (number r, (0, 0, 0, 0))
 
 -- ---- The state of a new search. Document 01: A new search starts with nothing taken, rung 0 and
 -- no open low.

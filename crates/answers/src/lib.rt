@@ -76,6 +76,20 @@ pub enum StreamAnswer {
     Refused(Refusal),
 }
 
+// The last place and the pattern number of a hit, and the values read up to and with that place.
+pub struct Hit {
+    pub last: usize,
+    pub pattern: usize,
+    pub read: usize,
+}
+
+// The first hit of a text, or the values read, which are all, where there is none.
+pub enum FirstHit {
+    Found(Hit),
+    NoHit(usize),
+    Refused(Refusal),
+}
+
 // A search state between two calls: the values taken so far, the automaton's node, and the open
 // minima among the last 256 values taken, oldest first, in a ring that starts at slot `first`.
 // Every bit pattern means some state.

@@ -5,7 +5,7 @@ use Rattle.lists.proofs.Prelude.{_≡_, _∙_, ap, sym, refl, subst, Bool, true
 use Rattle.lists.proofs.Prelude.{take-append-seam, le-refl, decLt, arith, lastOf, lastBelow}
 use Rattle.lists.proofs.Tests.{T-true, true-T}
 use Rattle.lists.proofs.LastBelow.{lastBelow-ext, lastBelow-le, lastBelow-passes, lastBelow-none}
-use Rattle.lists.proofs.Parts.{length-snoc}
+use Rattle.lists.proofs.Parts.{length-none, length-snoc}
 use Rattle.cartesian.specs.Cartesian.{distances, cut}
 use Rattle.cartesian.specs.Windows.{suffixDistances}
 use Rattle.cartesian.proofs.Window.{length-suffix, suffix-snoc}
@@ -83,15 +83,11 @@ pub failure-child : (ps : PatternSet) → T (goodSet ps) → 0 < length ps → (
 failure-child ps g z h v l t =
     let n = length-snoc h v in
     let e : suffixDistances 1 (h ++ (v ∷ [])) ≡ extended [] v =
-    suffix-snoc 0 h v (omega arith) ∙ ap (λ (k : List ℕ). extended k v) (no-suffix (suffixDistances 0 h) (length-suffix 0 h (omega arith))) in
+    suffix-snoc 0 h v (omega arith) ∙ ap (λ (k : List ℕ). extended k v) (length-none (suffixDistances 0 h) (length-suffix 0 h (omega arith))) in
     let u = T-true (isHead ps (extended [] v)) (root-child ps g z v [] (le-refl 0)) in
     let p = not-passed ps (h ++ (v ∷ [])) 1 (length (h ++ (v ∷ []))) (subst (λ (k : List ℕ). T (isHead ps k)) (sym e) u) (omega arith) in
     go (pred (lastBelow (headSuffix ps (h ++ (v ∷ []))) (length (h ++ (v ∷ []))))) refl (p .0) (p .1)
   where
-    no-suffix : (k : List ℕ) → length k ≡ 0 → k ≡ []
-    no-suffix [] q = refl
-    no-suffix (x ∷ k) q = absurd (let y : ⊥ = omega arith in y)
-
     front : (k : List ℕ) (x : ℕ) → T (isHead ps (k ++ (x ∷ []))) → T (isHead ps k)
     front k x s = subst (λ (k : List ℕ). T (isHead ps k)) (take-append-seam k (x ∷ [])) (head-shorter ps (k ++ (x ∷ [])) (length k) s)
 

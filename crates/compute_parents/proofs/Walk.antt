@@ -3,7 +3,7 @@
 use Rattle.lists.proofs.Prelude.{_≡_, _∙_, ap, sym, refl, subst, inl, inr, _⊎_, Bool, true, false, _||_, none, some, Option·some-injective, Option·none-ne-some}
 use Rattle.lists.proofs.Prelude.{List, ℕ, zero, suc, _+_, _-_, _≤_, _<_, T, eqb, ltb, length, getD, add-one, decLt, arith, eq-eqb, ne-eqb, lt-ltb, le-ltb}
 use Rattle.lists.proofs.Prelude.{ltb-false, lastBelow}
-use Rattle.lists.proofs.Tests.{T-true}
+use Rattle.lists.proofs.Tests.{T-true, not-zero}
 use Rattle.lists.proofs.LastBelow.{lastBelow-le, lastBelow-is, lastBelow-skip}
 use Rattle.cartesian.specs.Cartesian.{Tree, size}
 use Rattle.cartesian.proofs.Structure.{treeDistances, length-treeDistances}
@@ -30,13 +30,9 @@ root-no d b k h l = rw (ne-eqb d 0 (λ e. omega arith), le-ltb k (b + d) l) refl
 no-root : (d b k : ℕ) → eqb d 0 || ltb k (b + d) ≡ false → (0 < d) × (b + d ≤ k)
 no-root d b k e = go (eqb d 0) refl e
   where
-    positive : (d : ℕ) → eqb d 0 ≡ false → 0 < d
-    positive zero q = absurd (subst T q tt)
-    positive (suc d) q = omega arith
-
     go : (t : Bool) → eqb d 0 ≡ t → t || ltb k (b + d) ≡ false → (0 < d) × (b + d ≤ k)
     go true q r = absurd (subst T r tt)
-    go false q r = (positive d q, ltb-false k (b + d) r)
+    go false q r = (not-zero d q, ltb-false k (b + d) r)
 
 -- the test and the left part's first place, by the distance r that was read
 pub root-none : (r d b k : ℕ) → r ≡ d → r ≡ 0 → true ≡ eqb d 0 || ltb k (b + d)

@@ -1,6 +1,6 @@
 -- Laws of refusals: which condition is the first met, what a refused call tells and leaves, and
 -- what a call that is not refused knows.
-use Rattle.lists.proofs.Prelude.{_≡_, _∙_, ap, sym, refl, Bool, true, false, List, _∷_, _++_, ℕ, zero, suc, _<_, length, drop, arith}
+use Rattle.lists.proofs.Prelude.{_≡_, _∙_, ap, sym, refl, Bool, true, false, cond, List, [], _∷_, _++_, ℕ, zero, suc, _<_, length, drop, arith}
 use Rattle.answers.specs.declared.Refusal.{Refusal}
 use Rattle.answers.specs.Told.{number}
 use Rattle.answers.proofs.Refusals.{number-positive}
@@ -18,6 +18,23 @@ unmet n b cs e = rw e refl
 pub first-unmet : (n : ℕ) (b : Bool) (cs : Conditions) → firstMet ((suc n, b) ∷ cs) ≡ 0 → (b ≡ false) × (firstMet cs ≡ 0)
 first-unmet n true cs e = absurd (let z : ⊥ = omega arith in z)
 first-unmet n false cs e = (refl, e)
+
+-- of conditions behind each other the first ones decide, where one of them is met
+pub met-before : (cs ds : Conditions) (n : ℕ) → 0 < n → firstMet cs ≡ n → firstMet (cs ++ ds) ≡ n
+met-before [] ds n h e = absurd (let z : ⊥ = omega arith in z)
+met-before (c ∷ cs) ds n h e = go (c .1) e (met-before cs ds n h)
+  where
+    go : (b : Bool) → cond b (c .0) (firstMet cs) ≡ n → (firstMet cs ≡ n → firstMet (cs ++ ds) ≡ n) → cond b (c .0) (firstMet (cs ++ ds)) ≡ n
+    go true e ih = e
+    go false e ih = ih e
+
+-- so none of them is met where none is
+pub unmet-before : (cs ds : Conditions) → firstMet (cs ++ ds) ≡ 0 → firstMet cs ≡ 0
+unmet-before cs ds e = go (firstMet cs) refl
+  where
+    go : (n : ℕ) → firstMet cs ≡ n → firstMet cs ≡ 0
+    go zero q = q
+    go (suc n) q = absurd (let z : ⊥ = omega (arith, e, met-before cs ds (suc n) (omega arith) q) in z)
 
 -- ---- by the number of the refusal alone
 

@@ -1,10 +1,13 @@
--- May a set array be searched: what an entry over a whole set knows once the array is checked.
-use Rattle.lists.proofs.Prelude.{_≡_, _∙_, ap, refl, Bool, true, false, not, _&&_, List, [], _∷_, flatten, ℕ, eqb, length, arith, eq-eqb, ne-eqb}
+-- May a set array be searched: what an entry over a whole set knows once the array is checked, and
+-- what a search knows once the automaton is.
+use Rattle.lists.proofs.Prelude.{_≡_, _∙_, ap, refl, Bool, true, false, not, _&&_, List, [], _∷_, _++_, flatten, ℕ, eqb, length, arith, eq-eqb, ne-eqb}
+use Rattle.lists.proofs.Prelude.{begins}
 use Rattle.pattern_set.specs.PatternSet.{isSet, IsSet, patternsOf}
+use Rattle.automaton_model.specs.Automaton.{automatonWords}
 use Rattle.answers.specs.declared.Refusal.{Refusal}
 use Rattle.answers.specs.Told.{number}
 use Rattle.answers.proofs.Refusals.{number-positive}
-use Rattle.entries.specs.Entries.{firstMet, told, isUnsearchable, checkEntry}
+use Rattle.entries.specs.Entries.{Conditions, firstMet, told, isUnsearchable, checkEntry, searchConditions}
 use Rattle.entries.proofs.Refusals.{toldBy}
 
 module _ (ws : List ℕ) where
@@ -51,3 +54,16 @@ module _ (ws : List ℕ) where
 
   pub not-broken : IsSet ws → not (isSet ws) ≡ false
   not-broken e = ap not e
+
+-- ---- the conditions of a search
+
+-- where set and automaton are not refused, the conditions behind decide
+pub search-accepted : (ws automaton : List ℕ) (cs : Conditions) → firstMet (searchConditions ws automaton) ≡ 0
+    → firstMet (searchConditions ws automaton ++ cs) ≡ firstMet cs
+search-accepted ws automaton cs e = go (isUnsearchable ws) (not (isSet ws)) (not (begins automaton (automatonWords (patternsOf ws)))) e
+  where
+    go : (a b c : Bool) → firstMet ((1, a) ∷ (5, b) ∷ (7, c) ∷ []) ≡ 0 → firstMet ((1, a) ∷ (5, b) ∷ (7, c) ∷ cs) ≡ firstMet cs
+    go true b c e = absurd (let y : ⊥ = omega arith in y)
+    go false true c e = absurd (let y : ⊥ = omega arith in y)
+    go false false true e = absurd (let y : ⊥ = omega arith in y)
+    go false false false e = refl

@@ -125,7 +125,7 @@ withdrawEntry ws j =
     let cs : Conditions = (5, not (isSet ws)) ∷ (14, leb (length ps) j) ∷ [] in
     record { conditions = cs; counts = (length qs, length (flatten qs)); result = setWords qs ++ replicate unused 0 }
 
--- ---- Building the automaton, the stream search and the filter search.
+-- ---- Building the automaton, the stream search, the first hit and the filter search.
 
 -- building the automaton of the set in the array ws: nodes and words
 abbrev pub buildEntry : List ℕ → List ℕ → Entry (ℕ × ℕ) ℕ
@@ -133,6 +133,11 @@ buildEntry ws out =
     let ps = patternsOf ws in
     let cs : Conditions = (1, isUnsearchable ws) ∷ (5, not (isSet ws)) ∷ (10, ltb (length out) (16 * (1 + length (flatten ps)))) ∷ [] in
     record { conditions = cs; counts = (length (nodes ps), length (automatonWords ps)); result = automatonWords ps }
+
+-- the conditions of a search over the set in the array ws and the array of its automaton
+abbrev pub searchConditions : List ℕ → List ℕ → Conditions
+searchConditions ws automaton =
+    (1, isUnsearchable ws) ∷ (5, not (isSet ws)) ∷ (7, not (begins automaton (automatonWords (patternsOf ws)))) ∷ []
 
 -- ---- a call of the stream search: set, automaton, state, values and hit array
 
@@ -143,8 +148,8 @@ Counts = ℕ × ℕ × ℕ × ℕ
 unfoldable pub streamConditions : List ℕ → List ℕ → SearchState → List ℤ → List ℕ → Conditions
 streamConditions ws automaton st xs out =
     let ps = patternsOf ws in
-    (1, isUnsearchable ws) ∷ (5, not (isSet ws)) ∷ (7, not (begins automaton (automatonWords ps))) ∷ (8, not (goodState ps st))
-    ∷ (9, ltb 1048576 (st .taken + length xs)) ∷ (10, ltb (length out) (2 * length ps)) ∷ []
+    searchConditions ws automaton ++
+    ((8, not (goodState ps st)) ∷ (9, ltb 1048576 (st .taken + length xs)) ∷ (10, ltb (length out) (2 * length ps)) ∷ [])
 
 abbrev pub streamEntry : List ℕ → List ℕ → SearchState → List ℤ → List ℕ → Entry Counts ℕ
 streamEntry ws automaton st xs out =
@@ -154,6 +159,19 @@ streamEntry ws automaton st xs out =
 -- the state handed back
 abbrev pub streamState : List ℕ → List ℕ → SearchState → List ℤ → List ℕ → SearchState
 streamState ws automaton st xs out = unless (firstMet (streamConditions ws automaton st xs out)) (call (patternsOf ws) st (length out) xs .state) st
+
+-- ---- the first hit of a text: set, automaton and text. Document 02, 2.5
+
+-- of n values and their hits: 1, the last place and the pattern number of the first, and the values
+-- up to and with that place; where there is none, 0 and all values
+abbrev pub firstOf : ℕ → List (ℕ × ℕ) → ℕ × ℕ × ℕ × ℕ
+firstOf n [] = (0, 0, 0, n)
+firstOf n (h ∷ hs) = (1, h .0, h .1, suc (h .0))
+
+abbrev pub firstEntry : List ℕ → List ℕ → List ℤ → Entry (ℕ × ℕ × ℕ × ℕ) ℕ
+firstEntry ws automaton text =
+    let cs : Conditions = searchConditions ws automaton ++ ((9, ltb 1048576 (length text)) ∷ []) in
+    record { conditions = cs; counts = firstOf (length text) (hits (patternsOf ws) text); result = [] }
 
 -- ---- a filter search: set, text and hit array
 

@@ -2,14 +2,15 @@
 // refusals and the search state. No entry asks anything of its caller: each answers, or refuses by
 // the number of documents 01 and 02 and changes no word.
 ghost use Rattle.lists.specs.Prelude.{_≡_};
-ghost use Rattle.answers.specs.Told.{toldWritten, toldNext, toldEncoded, toldSize, toldBuilt, toldFiltered, toldStreamed};
+ghost use Rattle.answers.specs.Told.{toldWritten, toldNext, toldEncoded, toldSize, toldBuilt, toldFiltered, toldStreamed, toldFirst};
 ghost use Rattle.realization.specs.Realization.{leastRealization, failureLengths};
 ghost use Rattle.global_parents.specs.GlobalParents.{globalParents};
 ghost use Rattle.entries.specs.Entries.{told, after, distancesEntry, listEntry, encodeEntry, decodeEntry, emptySetEntry, checkEntry, addEntry, buildEntry};
-ghost use Rattle.entries.specs.Entries.{nextEntry, withdrawEntry, streamEntry, streamState, filterEntry};
+ghost use Rattle.entries.specs.Entries.{nextEntry, withdrawEntry, streamEntry, streamState, firstEntry, filterEntry};
 use answers::Built;
 use answers::Encoded;
 use answers::Filtered;
+use answers::FirstHit;
 use answers::NextList;
 use answers::SearchState;
 use answers::SetSize;
@@ -137,6 +138,15 @@ pub fn stream_search(
         ≡ after (streamEntry (now (set .entry)) (now (automaton .entry)) state (now (values .entry)) (now (hits .entry))) (now (hits .entry)) ⌝ }
 {
     stream_search::stream_search(set, automaton, state, values, hits)
+}
+
+// Tells the first hit of a whole text, by last place, longer pattern first, then lower number, and
+// how many values were read: up to and with its last place, or all where there is none. Refuses 1 5
+// 7 9.
+pub fn first_hit(set: &[u32], automaton: &[u32], text: &[i32]) -> FirstHit
+    ensures { λ r. ⌜ toldFirst r ≡ told (0, 0, 0, 0) (firstEntry (now (set .entry)) (now (automaton .entry)) (now (text .entry))) ⌝ }
+{
+    first_hit::first_hit(set, automaton, text)
 }
 
 // Lists the hits of a whole text: by last place, longer pattern first, then lower number; tells

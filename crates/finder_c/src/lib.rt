@@ -1,16 +1,17 @@
 // The finder's entries for C and Rust: each returns a struct of numbers. A slice is a pointer and a
 // length; include/finder.h documents each function.
 ghost use Rattle.lists.specs.Prelude.{_≡_};
-ghost use Rattle.answers.specs.Told.{toldWritten, toldNext, toldEncoded, toldSize, toldBuilt, toldFiltered, toldStreamed, newSearch};
+ghost use Rattle.answers.specs.Told.{toldWritten, toldNext, toldEncoded, toldSize, toldBuilt, toldFiltered, toldStreamed, toldFirst, newSearch};
 ghost use Rattle.realization.specs.Realization.{leastRealization, failureLengths};
 ghost use Rattle.global_parents.specs.GlobalParents.{globalParents};
 ghost use Rattle.entries.specs.Entries.{told, after, distancesEntry, listEntry, encodeEntry, decodeEntry, emptySetEntry, checkEntry, addEntry, buildEntry};
-ghost use Rattle.entries.specs.Entries.{nextEntry, withdrawEntry, streamEntry, streamState, filterEntry};
-ghost use Rattle.finder_c.specs.Told.{tellsWritten, tellsNext, tellsCode, tellsCounts, tellsStreamed};
+ghost use Rattle.entries.specs.Entries.{nextEntry, withdrawEntry, streamEntry, streamState, firstEntry, filterEntry};
+ghost use Rattle.finder_c.specs.Told.{tellsWritten, tellsNext, tellsCode, tellsCounts, tellsStreamed, tellsFirst};
 use answers::Built;
 use answers::Counts;
 use answers::Encoded;
 use answers::Filtered;
+use answers::FirstHit;
 use answers::NextList;
 use answers::SearchState;
 use answers::SetSize;
@@ -57,6 +58,17 @@ pub struct FinderStreamed {
     pub taken: usize,
     pub hits: usize,
     pub attempts: usize,
+}
+
+// Refusal, 1 where there is a hit and 0 where there is none, its last place and pattern number, and
+// the values read.
+#[repr(C)]
+pub struct FinderFirstHit {
+    pub refusal: u32,
+    pub found: u32,
+    pub last: usize,
+    pub pattern: usize,
+    pub read: usize,
 }
 
 // ---- answers as numbers
@@ -189,6 +201,28 @@ fn streamed(state: SearchState, a: StreamAnswer) -> FinderStreamed
             hits: 0,
             attempts: 0,
         },
+    }
+}
+
+fn first_told(refusal: u32, found: u32, last: usize, pattern: usize, read: usize) -> FinderFirstHit
+    ensures { λ r. ⌜ tellsFirst r ≡ (refusal, (found, last, pattern, read)) ⌝ }
+{
+    FinderFirstHit {
+        refusal,
+        found,
+        last,
+        pattern,
+        read,
+    }
+}
+
+fn first_found(f: FirstHit) -> FinderFirstHit
+    ensures { λ r. ⌜ tellsFirst r ≡ toldFirst f ⌝ }
+{
+    match f {
+        FirstHit::Found(h) => first_told(0, 1, h.last, h.pattern, h.read),
+        FirstHit::NoHit(n) => first_told(0, 0, 0, 0, n),
+        FirstHit::Refused(r) => first_told(answers::refusal_number(r), 0, 0, 0, 0),
     }
 }
 
@@ -329,6 +363,14 @@ pub extern "C" fn finder_stream_search(
     let next = s.state;
     let answer = s.answer;
     streamed(next, answer)
+}
+
+#[no_mangle]
+pub extern "C" fn finder_first_hit(set: &[u32], automaton: &[u32], text: &[i32]) -> FinderFirstHit
+    ensures { λ r. ⌜ tellsFirst r ≡ told (0, 0, 0, 0) (firstEntry (now (set .entry)) (now (automaton .entry)) (now (text .entry))) ⌝ }
+{
+    let f = finder::first_hit(set, automaton, text);
+    first_found(f)
 }
 
 #[no_mangle]

@@ -7,7 +7,7 @@ use Rattle.lists.proofs.Prelude.{flatten, ℕ, zero, suc, _+_, _*_, _≤_, _<_,
 use Rattle.lists.proofs.Prelude.{length-drop, drop, arith, le-ltb, all, begins}
 use Rattle.lists.proofs.Parts.{length-snoc}
 use Rattle.lists.proofs.Rows.{flatten-snoc}
-use Rattle.lists.proofs.Tests.{true-T}
+use Rattle.lists.proofs.Tests.{true-T, not-zero}
 use Rattle.lists.proofs.Same.{begins-iff}
 use Rattle.gaps.specs.Gaps.{holdsGap}
 use Rattle.cartesian.specs.Cartesian.{distances}
@@ -29,12 +29,8 @@ good-values : (xs : List ℤ) → (eqb (length xs) 0 ≡ false) → length xs �
 unfolding Realizable
 good-values xs n l =
     let d = length-distances xs in
-    let some : 1 ≤ length xs = positive (length xs) n in
+    let some = not-zero (length xs) n in
     goodPattern-is (distances xs) (omega (arith, d, some)) (omega (arith, d, l)) (realizable-iff (distances xs) .1 (xs, refl))
-  where
-    positive : (n : ℕ) → eqb n 0 ≡ false → 1 ≤ n
-    positive zero e = absurd (let t : T false = subst T e tt in t)
-    positive (suc n) e = omega arith
 
 -- ---- one pattern after the other
 

@@ -5,6 +5,12 @@ use Rattle.lists.proofs.Prelude.{getD-append-add, getD-drop, take-appen
 use Rattle.lists.proofs.Prelude.{append-assoc, ℕ, _+_, _≤_, length, take, drop, length-append, length-drop, drop-of-length-le, getD-take, take-all}
 use Rattle.lists.proofs.Prelude.{take-at, drop-drop, take-add, drop-append-le, take-append-seam, drop-append-add, add-one, arith, lastOf}
 
+-- ---- no elements
+
+pub length-none : {A : Type 0} (l : List A) → length l ≡ 0 → l ≡ []
+length-none [] e = refl
+length-none (x ∷ l) e = absurd (let y : ⊥ = omega arith in y)
+
 -- ---- fronts
 
 -- what lies behind the first n elements of the first n + m

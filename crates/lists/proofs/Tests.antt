@@ -1,5 +1,6 @@
 -- Tests: what is true, as a test and as a fact, and tests joined by `and` and `or`.
-use Rattle.lists.proofs.Prelude.{ℕ, arith, _≡_, sym, refl, subst, inl, inr, _⊎_, Bool, true, false, _&&_, _||_, T, eqb, eqb→eq, eq-eqb}
+use Rattle.lists.proofs.Prelude.{ℕ, zero, suc, _<_, arith, _≡_, sym, refl, subst, inl, inr, _⊎_, Bool, true, false, _&&_, _||_, T, eqb, eqb→eq}
+use Rattle.lists.proofs.Prelude.{eq-eqb, eqb-false}
 
 -- a Bool that is true, as a fact, and back
 pub T-true : (b : Bool) → b ≡ true → T b
@@ -74,3 +75,12 @@ eqb-comm a b =
     test-ext (eqb a b) (eqb b a)
     (λ t. T-true (eqb b a) (eq-eqb b a (sym (eqb→eq a b t))))
     (λ t. T-true (eqb a b) (eq-eqb a b (sym (eqb→eq b a t))))
+
+-- ---- a number that is not 0
+
+pub positive : (n : ℕ) → (n ≡ 0 → ⊥) → 0 < n
+positive zero z = absurd (z refl)
+positive (suc n) z = omega arith
+
+pub not-zero : (n : ℕ) → eqb n 0 ≡ false → 0 < n
+not-zero n e = positive n (eqb-false n 0 e)

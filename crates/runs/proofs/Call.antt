@@ -41,6 +41,19 @@ hits-more ps text x =
     (ap flatten (tabulate-ext (length text) (hitsAt ps (text ++ (x ∷ []))) (hitsAt ps text) (hits-same ps text x)))
     (hits-new ps text x)
 
+-- those of a front come first
+pub hits-front : (ps : PatternSet) (text xs : List ℤ) → (rest : List (ℕ × ℕ)) × (hits ps (text ++ xs) ≡ hits ps text ++ rest)
+hits-front ps text [] = ([], ap (hits ps) (append-nil text) ∙ sym (append-nil (hits ps text)))
+hits-front ps text (x ∷ xs) =
+    let here : List (ℕ × ℕ) = map (λ j. (length text, j)) (lastHits ps (text ++ (x ∷ []))) in
+    let r = hits-front ps (text ++ (x ∷ [])) xs in (
+      here ++ r .0,
+      ap (hits ps) (sym (append-assoc text (x ∷ []) xs))
+          ∙ r .1
+          ∙ ap (λ (hs : List (ℕ × ℕ)). hs ++ r .0) (hits-more ps text x)
+          ∙ append-assoc (hits ps text) here (r .0),
+    )
+
 -- ---- what the reference takes
 
 module _ (ps : PatternSet) (text : List ℤ) (free : ℕ) (x : ℤ) (xs : List ℤ) where

@@ -14,3 +14,4 @@ pub mod Run
 pub mod Demands
 pub mod CatalogueWalk
 pub mod Withdrawing
+pub mod FirstHit

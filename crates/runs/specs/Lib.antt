@@ -3,3 +3,4 @@ pub mod ReferenceRun
 pub mod Demands
 pub mod CatalogueWalk
 pub mod Withdrawing
+pub mod FirstHit

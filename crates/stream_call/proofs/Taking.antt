@@ -1,22 +1,20 @@
 -- THE CALL, value by value: what is done so far and then the call from the present state are the
 -- whole call. A step adds its hits, its attempts and its value; where no value is left or too few
 -- words are free, nothing is left to do.
-use Rattle.lists.proofs.Prelude.{_≡_, _∙_, ap, sym, refl, subst, ap₂, true, false, cond, List, [], _∷_, _++_, append-nil, append-assoc, ℕ, suc, _+_, _-_, _*_}
+use Rattle.lists.proofs.Prelude.{_≡_, _∙_, ap, sym, refl, subst, ap₂, true, cond, List, [], _∷_, _++_, append-nil, append-assoc, ℕ, suc, _+_, _-_, _*_}
 use Rattle.lists.proofs.Prelude.{_/_, _%_, _≤_, _<_, ℤ, pos, T, leb, length, getD, take, drop, length-append, length-drop, drop-of-length-le, length-map}
 use Rattle.lists.proofs.Prelude.{drop-cons, arith, le-leb, lt-leb, lt-ltb, le-ltb}
 use Rattle.lists.proofs.Parts.{paste}
-use Rattle.gaps.specs.Gaps.{isGap}
 use Rattle.answers.specs.declared.SearchState.{SearchState}
 use Rattle.pattern_set.specs.PatternSet.{PatternSet, goodSet}
 use Rattle.matching.specs.Matching.{hitWords}
 use Rattle.automaton_model.specs.Automaton.{nodes, headOf, nodeOf, advance, listed}
-use Rattle.search_model.specs.Search.{ringOf, stateOf, Stepped, stop, andThen, Called, feed, sampled, step, call}
-use Rattle.search_model.specs.Ring.{goodRing, distanceOf, cleared}
-use Rattle.open_minima.specs.declared.Pushed.{Pushed}
-use Rattle.open_minima.specs.Parts.{ringFrom, AreCounters, IsPushed}
+use Rattle.search_model.specs.Search.{ringOf, stop, andThen, Called, feed, sampled, step, call}
+use Rattle.search_model.specs.Ring.{goodRing, distanceOf}
+use Rattle.open_minima.specs.Parts.{AreCounters}
 use Rattle.search_model.proofs.Good.{good, good-few}
 use Rattle.search_model.proofs.Push.{pushed-good, cleared-good, pushed-places, pushed-values}
-use Rattle.search_model.proofs.Feed.{step-gap, step-sample, step-cases}
+use Rattle.search_model.proofs.Feed.{step-cases}
 use Rattle.automaton_model.proofs.Nodes.{node-root}
 use Rattle.failure_walk.specs.Reached.{Reached}
 use Rattle.stream_step.specs.PlaceWords.{placeWords}
@@ -24,7 +22,9 @@ use Rattle.stream_step.proofs.Listed.{length-listed}
 use Rattle.failure_walk.proofs.Walk.{reached-within, attempts-few}
 use Rattle.matching.proofs.HitWords.{length-hitWords, hitWords-append}
 use Rattle.stream_call.specs.declared.Moved.{Moved}
-use Rattle.stream_call.specs.Taken.{stateFrom, IsStepped, IsTaken}
+use Rattle.read_value.specs.declared.Read.{Read}
+use Rattle.read_value.specs.Read.{stateFrom, IsRead}
+use Rattle.stream_call.specs.Taken.{IsStepped, IsTaken}
 
 -- i values taken, the hits hs and a attempts made, and then a call
 abbrev later : ℕ → List (ℕ × ℕ) → ℕ → Called SearchState → Called SearchState
@@ -65,50 +65,23 @@ entered-counters st e h =
 module _ (ps : PatternSet) (g : T (goodSet ps)) (z : 0 < length ps) where
   -- ---- one step
 
-  -- a gap clears the ring and leaves the arrays as they are
-  pub stepped-gap : (st : SearchState) (x : ℤ) (first next : ℕ) (places : List ℕ) (values : List ℤ) (before : List ℕ)
-      → isGap x ≡ true → ringOf st ≡ ringFrom first next places values → AreCounters (st .taken) first next
-      → IsStepped ps st x places values before before (record { first = first; next = first; node = 0; attempts = 0; hits = 0 })
-  unfolding hitWords
-  stepped-gap st x first next places values before o e k =
-      let s = sym (step-gap ps st x o) in
-      let none : first - first ≡ 0 = omega arith in
-      let ring : ringFrom first first places values ≡ cleared (ringOf st) =
-      (λ i. record { minima = none i; first = first % 256; places = places; values = values }) ∙ ap cleared (sym e) in
+  -- what is read and the hits at the node make it
+  pub stepped : (st : SearchState) (x : ℤ) (places : List ℕ) (values : List ℤ) (before after : List ℕ) (r : Read) (n : ℕ)
+      → IsRead ps st x places values r
+      → n ≡ length (listed ps (headOf ps (r .node)))
+      → after ≡ placeWords (st .taken) (listed ps (headOf ps (r .node))) ++ drop (2 * length (listed ps (headOf ps (r .node)))) before
+      → IsStepped ps st x places values before after
+      (record { first = r .first; next = r .next; node = r .node; attempts = r .attempts; hits = n })
+  stepped st x places values before after r n i en ew =
+      let js = listed ps (headOf ps (r .node)) in
+      let l : length js ≡ length (step ps st x .hits) =
+      sym (ap length (i .hits) ∙ length-map {B = ℕ × ℕ} js (λ (j : ℕ). (st .taken, j))) in
       record {
-        state = ap (stateOf (st .taken + 1) 0) ring ∙ ap (λ (t : Stepped SearchState). t .state) s;
-        counters = record { ordered = omega arith; small = omega (arith, k .ordered, k .small) };
-        attempts = ap (λ (t : Stepped SearchState). t .attempts) s;
-        hits = ap (λ (t : Stepped SearchState). length (t .hits)) s;
-        words = ap (λ (t : Stepped SearchState). hitWords (t .hits) ++ drop (2 * length (t .hits)) before) s;
-      }
-
-  -- the parts of the step of a sample make it
-  pub stepped : (st : SearchState) (x : ℤ) (places : List ℕ) (values : List ℤ) (before after : List ℕ) (p : Pushed) (node attempts n : ℕ)
-      → isGap x ≡ false → IsPushed (st .taken) (ringOf st) x places values p
-      → Reached ps (st .node) (p .distance) node attempts
-      → n ≡ length (listed ps (headOf ps node))
-      → after ≡ placeWords (st .taken) (listed ps (headOf ps node)) ++ drop (2 * length (listed ps (headOf ps node))) before
-      → IsStepped ps st x places values before after (record { first = p .first; next = p .next; node = node; attempts = attempts; hits = n })
-  unfolding sampled
-  stepped st x places values before after p node attempts n o ip r en ew =
-      let s = sym (step-sample ps st x o) in
-      let d : p .distance ≡ distanceOf (st .taken) (ringOf st) x = ip .distance in
-      let adv : ℕ → List ℕ × ℕ = λ v. advance ps (headOf ps (st .node)) v in
-      let w = reached-within ps g z (p .distance) (st .node) node attempts r in
-      let h : headOf ps node ≡ adv (distanceOf (st .taken) (ringOf st) x) .0 = w .1 ∙ ap (λ (v : ℕ). adv v .0) d in
-      let m : node ≡ nodeOf ps (adv (distanceOf (st .taken) (ringOf st) x) .0) = r .node ∙ ap (λ (v : ℕ). nodeOf ps (adv v .0)) d in
-      let l : length (listed ps (headOf ps node)) ≡ length (sampled ps st x .hits) = sym
-      (length-map (listed ps (adv (distanceOf (st .taken) (ringOf st) x) .0)) (λ (j : ℕ). (st .taken, j)) ∙ ap (λ (k : List ℕ). length (listed ps k))
-      (sym h)) in
-      record {
-        state = ap₂ (stateOf (st .taken + 1)) m (ip .ring) ∙ ap (λ (t : Stepped SearchState). t .state) s;
-        counters = ip .counters;
-        attempts = r .attempts ∙ ap (λ (v : ℕ). adv v .1) d ∙ ap (λ (t : Stepped SearchState). t .attempts) s;
-        hits = en ∙ l ∙ ap (λ (t : Stepped SearchState). length (t .hits)) s;
-        words =
-            ew ∙ ap₂ (λ (k : List ℕ) (i : ℕ). placeWords (st .taken) (listed ps k) ++ drop (2 * i) before) h l
-            ∙ ap (λ (t : Stepped SearchState). hitWords (t .hits) ++ drop (2 * length (t .hits)) before) s;
+        state = i .state;
+        counters = i .counters;
+        attempts = i .attempts;
+        hits = en ∙ l;
+        words = ew ∙ ap₂ (λ (hs : List (ℕ × ℕ)) (m : ℕ). hitWords hs ++ drop (2 * m) before) (sym (i .hits)) l;
       }
 
   -- a step has at most a hit a pattern

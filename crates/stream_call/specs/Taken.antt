@@ -1,17 +1,14 @@
 -- What a step and the values of a call leave in the arrays that a search keeps apart, and what they
 -- answer.
-use Rattle.lists.specs.Prelude.{_≡_, cond, List, _++_, ℕ, _+_, _*_, leb, ℤ, length, drop}
+use Rattle.lists.specs.Prelude.{_≡_, cond, List, _++_, _+_, _*_, ℕ, leb, ℤ, length, drop}
 use Rattle.answers.specs.declared.SearchState.{SearchState}
 use Rattle.pattern_set.specs.PatternSet.{PatternSet}
 use Rattle.matching.specs.Matching.{hitWords}
-use Rattle.search_model.specs.Search.{stateOf, step, call}
-use Rattle.open_minima.specs.Parts.{ringFrom, AreCounters}
+use Rattle.search_model.specs.Search.{step, call}
+use Rattle.open_minima.specs.Parts.{AreCounters}
+use Rattle.read_value.specs.Read.{stateFrom}
 use Rattle.stream_call.specs.declared.Moved.{Moved}
 use Rattle.stream_call.specs.declared.Taken.{Taken}
-
--- the state that the parts make, with the counters of its ring
-abbrev pub stateFrom : ℕ → ℕ → ℕ → ℕ → List ℕ → List ℤ → SearchState
-stateFrom taken node first next places values = stateOf taken node (ringFrom first next places values)
 
 -- what the step of x leaves in the lent arrays, and what it answers
 pub record IsStepped (ps : PatternSet) (st : SearchState) (x : ℤ) (places : List ℕ) (values : List ℤ) (before after : List ℕ) (r : Moved) : Type 0 where

@@ -7,7 +7,8 @@ ghost use Rattle.search_model.specs.Ring.{goodRing};
 ghost use Rattle.search_model.specs.Search.{ringOf};
 ghost use Rattle.automaton_lookup.specs.Made.{Whole};
 ghost use Rattle.open_minima.specs.Parts.{ringFrom, AreCounters};
-ghost use Rattle.stream_call.specs.Taken.{stateFrom, IsStepped, IsTaken};
+ghost use Rattle.read_value.specs.Read.{stateFrom};
+ghost use Rattle.stream_call.specs.Taken.{IsStepped, IsTaken};
 use answers::Counts;
 use answers::SearchState;
 
@@ -29,7 +30,7 @@ pub struct Taken {
 
 // Takes value i of the call as the next one of a search: the places and values of its open minima
 // lie in `places` and `heights`, from the counter `first` on to before the counter `next`, and its
-// hits go to the front of `hits`. A gap leads to node 0 and leaves no minimum open.
+// hits go to the front of `hits`.
 fn step(
     set: &[u32],
     automaton: &[u32],
@@ -51,23 +52,26 @@ fn step(
     ensures { λ r. ⌜ IsStepped (patternsOf (now (set .entry))) (stateFrom taken node first next (now (places .entry)) (now (heights .entry)))
         (getD (now (values .entry)) i (pos 0)) (now (places .exit)) (now (heights .exit)) (now (hits .entry)) (now (hits .exit)) r ⌝ }
 {
-    if gaps::is_gap(values, i) {
-        return Moved {
-            first,
-            next: first,
-            node: 0,
-            attempts: 0,
-            hits: 0,
-        };
-    }
-    let p = open_minima::push_minimum(places, heights, first, next, taken, values, i);
-    let a = stream_step::advance(set, automaton, k, count, node, p.distance);
-    let n = stream_step::write_hits(set, automaton, k, count, a.node, taken, hits);
+    let r = read_value::read_value(
+        set,
+        automaton,
+        k,
+        count,
+        places,
+        heights,
+        first,
+        next,
+        node,
+        taken,
+        values,
+        i,
+    );
+    let n = stream_step::write_hits(set, automaton, k, count, r.node, taken, hits);
     Moved {
-        first: p.first,
-        next: p.next,
-        node: a.node,
-        attempts: a.attempts,
+        first: r.first,
+        next: r.next,
+        node: r.node,
+        attempts: r.attempts,
         hits: n,
     }
 }
@@ -127,12 +131,15 @@ pub fn take_values(
         taken += 1;
         i += 1;
     }
+    let reached = node as u32;
+    let minima = (next - first) as u32;
+    let slot = (first % 256) as u8;
     Taken {
         state: SearchState {
             taken,
-            node: node as u32,
-            minima: (next - first) as u32,
-            first: (first % 256) as u8,
+            node: reached,
+            minima,
+            first: slot,
             places,
             values: heights,
         },

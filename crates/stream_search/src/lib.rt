@@ -3,15 +3,15 @@
 ghost use Rattle.lists.specs.Prelude.{_≡_, cond, _||_, _*_, eqb, leb, ltb};
 ghost use Rattle.answers.specs.Told.{number, toldStreamed};
 ghost use Rattle.pattern_set.specs.PatternSet.{patternsOf};
-ghost use Rattle.entries.specs.Entries.{streamEntry, streamState, told, after};
+ghost use Rattle.entries.specs.Entries.{firstMet, searchConditions, streamEntry, streamState, told, after};
 ghost use Rattle.search_model.specs.Search.{goodState};
 ghost use Rattle.automaton_lookup.specs.Made.{Whole};
 use answers::Counts;
 use answers::Refusal;
 use answers::SearchState;
-use answers::SetSize;
 use answers::StreamAnswer;
 use answers::Streamed;
+use search_check::SearchSize;
 
 // Is a minimum open, or the node the root.
 fn has_minimum(minima: u32, node: u32) -> bool
@@ -69,31 +69,23 @@ fn refused(given: SearchState, r: Refusal) -> Streamed
     }
 }
 
-// Searches on from a state: takes the values, writes the hits that end at them, and hands the state
-// back.
-pub fn stream_search(
+// Searches on from a state, over the k patterns of a set and the count nodes of its automaton.
+fn search_on(
     set: &[u32],
     automaton: &[u32],
+    k: usize,
+    count: usize,
     state: SearchState,
     values: &[i32],
     hits: &mut [u32],
 ) -> Streamed
+    requires { ⌜ Whole (now set) (now automaton) k count × (firstMet (searchConditions (now set) (now automaton)) ≡ 0) ⌝ }
     ensures { λ r. ⌜ toldStreamed (r .answer) ≡ told (0, 0, 0, 0)
         (streamEntry (now (set .entry)) (now (automaton .entry)) state (now (values .entry)) (now (hits .entry))) ⌝ }
     ensures { λ r. ⌜ r .state ≡ streamState (now (set .entry)) (now (automaton .entry)) state (now (values .entry)) (now (hits .entry)) ⌝ }
     ensures { λ _. ⌜ now (hits .exit) ≡ after (streamEntry (now (set .entry)) (now (automaton .entry)) state (now (values .entry))
         (now (hits .entry))) (now (hits .entry)) ⌝ }
 {
-    let SetSize::Holds(k, _) = set_arrays::check_set(set) else {
-        return refused(state, Refusal::BrokenSet);
-    };
-    if k == 0 {
-        return refused(state, Refusal::Empty);
-    }
-    if !automaton::is_automaton(set, automaton) {
-        return refused(state, Refusal::OtherAutomaton);
-    }
-    let count = automaton_lookup::node_count(set, automaton, k, 0);
     if !state_is_good(set, automaton, k, count, state) {
         return refused(state, Refusal::BrokenState);
     }
@@ -109,5 +101,26 @@ pub fn stream_search(
     Streamed {
         state: next,
         answer: answer_of(counts, values.len()),
+    }
+}
+
+// Searches on from a state: takes the values, writes the hits that end at them, and hands the state
+// back.
+pub fn stream_search(
+    set: &[u32],
+    automaton: &[u32],
+    state: SearchState,
+    values: &[i32],
+    hits: &mut [u32],
+) -> Streamed
+    ensures { λ r. ⌜ toldStreamed (r .answer) ≡ told (0, 0, 0, 0)
+        (streamEntry (now (set .entry)) (now (automaton .entry)) state (now (values .entry)) (now (hits .entry))) ⌝ }
+    ensures { λ r. ⌜ r .state ≡ streamState (now (set .entry)) (now (automaton .entry)) state (now (values .entry)) (now (hits .entry)) ⌝ }
+    ensures { λ _. ⌜ now (hits .exit) ≡ after (streamEntry (now (set .entry)) (now (automaton .entry)) state (now (values .entry))
+        (now (hits .entry))) (now (hits .entry)) ⌝ }
+{
+    match search_check::check_search(set, automaton) {
+        SearchSize::Holds(k, count) => { search_on(set, automaton, k, count, state, values, hits) }
+        SearchSize::Refused(r) => refused(state, r),
     }
 }

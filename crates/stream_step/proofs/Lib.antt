@@ -1,4 +1,5 @@
 -- The root of the crate's laws.
 pub mod PlaceWords
 pub mod Listed
+pub mod FirstListed
 pub mod Writing

@@ -6,13 +6,15 @@ use Rattle.lists.proofs.Prelude.{_≡_, _∙_, ap, sym, refl, subst, Bool, true
 use Rattle.lists.proofs.Prelude.{_<_, T, leb, leb→le, le→leb, length, getD, drop, length-append, length-drop, length-take-le, getD-take, getD-drop, le-refl}
 use Rattle.lists.proofs.Prelude.{arith, tabulate, select, same}
 use Rattle.lists.proofs.Same.{same-eq}
+use Rattle.lists.proofs.Tests.{positive}
+use Rattle.lists.proofs.Parts.{length-none}
 use Rattle.lists.proofs.Members.{getD-mem, mem-below}
 use Rattle.lists.proofs.Select.{select-empty}
 use Rattle.lists.proofs.Counting.{select-two}
 use Rattle.pattern_set.specs.PatternSet.{PatternSet, goodSet}
 use Rattle.matching.specs.Matching.{failure, chain}
 use Rattle.automaton_model.specs.Automaton.{nodes, headOf, nodeOf, endsAt, firstEnd, endingAt, listed, order}
-use Rattle.automaton_model.proofs.Nodes.{good-length, node-longer, failure-head, failure-shorter}
+use Rattle.automaton_model.proofs.Nodes.{good-length, node-root, node-longer, failure-head, failure-shorter}
 use Rattle.automaton_lookup.specs.Places.{firstPlace}
 use Rattle.automaton_model.proofs.Order.{length-order}
 use Rattle.automaton_lookup.proofs.Places.{order-ending, ends-within}
@@ -43,17 +45,17 @@ ending-root ps g =
     let y : ⊥ = omega (arith, ap length e) in y)
 
 ending-none : (ps : PatternSet) (h : List ℕ) → endsAt ps h ≡ 0 → endingAt ps h ≡ []
-ending-none ps h e = go (endingAt ps h) (length-endingAt ps h ∙ e)
-  where
-    go : (js : List ℕ) → length js ≡ 0 → js ≡ []
-    go [] l = refl
-    go (j ∷ js) l = absurd (let z : ⊥ = omega arith in z)
+ending-none ps h e = length-none (endingAt ps h) (length-endingAt ps h ∙ e)
 
 -- ---- the patterns listed
 
-pub listed-root : (ps : PatternSet) → T (goodSet ps) → listed ps [] ≡ []
+listed-root : (ps : PatternSet) → T (goodSet ps) → listed ps [] ≡ []
 unfolding listed flatten
 listed-root ps g = ap (λ (c : List (List ℕ)). flatten (map (endingAt ps) c)) (chain-root ps) ∙ append-nil (endingAt ps []) ∙ ending-root ps g
+
+-- so at node 0, its node
+pub listed-node-root : (ps : PatternSet) → T (goodSet ps) → 0 < length ps → listed ps (headOf ps 0) ≡ []
+listed-node-root ps g z = ap (listed ps) (node-root ps g z .0) ∙ listed-root ps g
 
 pub listed-more : (ps : PatternSet) (h : List ℕ) → 0 < length h → listed ps h ≡ endingAt ps h ++ listed ps (failure ps h)
 unfolding listed flatten
@@ -105,14 +107,10 @@ pub failure-node : (ps : PatternSet) → T (goodSet ps) → 0 < length ps → (n
     → f ≡ nodeOf ps (failure ps (headOf ps n))
     → (f < length (nodes ps)) × (length (headOf ps f) < length (headOf ps n)) × (listed ps (headOf ps n) ≡ endingAt ps (headOf ps n) ++ listed ps (headOf ps f))
 failure-node ps g z n f h k e =
-    let l = node-longer ps g z n (let y : 0 < n = positive n k in y) h in
+    let l = node-longer ps g z n (positive n k) h in
     let p = failure-head ps g n f h e in
     let rest = ap (λ (g : List ℕ). endingAt ps (headOf ps n) ++ listed ps g) (sym (p .1)) in
     (p .0, omega (arith, ap length (p .1), failure-shorter ps (headOf ps n) l), listed-more ps (headOf ps n) l ∙ rest)
-  where
-    positive : (n : ℕ) → (n ≡ 0 → ⊥) → 0 < n
-    positive zero k = absurd (k refl)
-    positive (suc n) k = omega arith
 
 -- ---- how many are listed
 

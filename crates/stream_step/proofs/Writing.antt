@@ -7,13 +7,12 @@ use Rattle.pattern_set.proofs.Good.{goodSet-parts}
 use Rattle.pattern_set.specs.PatternSet.{PatternSet, goodSet}
 use Rattle.matching.specs.Matching.{hitWords, failure, chain}
 use Rattle.automaton_model.specs.Automaton.{nodes, headOf, nodeOf, endsAt, firstEnd, endingAt, listed}
-use Rattle.automaton_model.proofs.Nodes.{node-root}
 use Rattle.automaton_lookup.specs.Places.{firstPlace}
 use Rattle.automaton_model.proofs.Order.{order-lt}
 use Rattle.automaton_lookup.proofs.Places.{ends-within}
 use Rattle.stream_step.specs.PlaceWords.{placeWords}
 use Rattle.stream_step.proofs.PlaceWords.{length-placeWords, placeWords-append, placeWords-more}
-use Rattle.stream_step.proofs.Listed.{length-endingAt, ending-at-place, listed-root, output-node, failure-node}
+use Rattle.stream_step.proofs.Listed.{length-endingAt, ending-at-place, listed-node-root, output-node, failure-node}
 
 -- ---- the patterns that end at one head
 
@@ -133,7 +132,7 @@ module _ (ps : PatternSet) (g : T (goodSet ps)) (z : 0 < length ps) (p : ℕ) (d
   pub writing-end : (js : List ℕ) (at n : ℕ) (hits : List ℕ) → Written ps p d js at n hits → at ≡ 0
       → (n ≡ length js) × (hits ≡ placeWords p js ++ drop (2 * length js) d)
   writing-end js at n hits w e =
-      let r : listed ps (headOf ps at) ≡ [] = ap (λ (i : ℕ). listed ps (headOf ps i)) e ∙ ap (listed ps) (node-root ps g z .0) ∙ listed-root ps g in
+      let r : listed ps (headOf ps at) ≡ [] = ap (λ (i : ℕ). listed ps (headOf ps i)) e ∙ listed-node-root ps g z in
       let q : js ≡ w .done = w .whole ∙ ap (λ (l : List ℕ). w .done ++ l) r ∙ append-nil (w .done) in
       let k : n ≡ length js = w .count ∙ ap length (sym q) in
       (k, w .words ∙ ap₂ (λ (l : List ℕ) (i : ℕ). placeWords p l ++ drop (2 * i) d) (sym q) k)

@@ -9,6 +9,8 @@ use Rattle.answers.specs.declared.Built.{Built}
 use Rattle.answers.specs.declared.Filtered.{Filtered}
 use Rattle.answers.specs.declared.Counts.{Counts}
 use Rattle.answers.specs.declared.StreamAnswer.{StreamAnswer}
+use Rattle.answers.specs.declared.Hit.{Hit}
+use Rattle.answers.specs.declared.FirstHit.{FirstHit}
 use Rattle.test_differences.specs.declared.difference.Part.{Part}
 use Rattle.test_differences.specs.declared.difference.Difference.{Difference}
 use Rattle.test_differences.specs.Difference.{firstOf, compared, bit}
@@ -58,3 +60,20 @@ abbrev pub comparedStream : StreamAnswer → Bool → Counts → Difference
 comparedStream (StreamAnswer.Ended c) ended want = firstOf (compared Part.Ended 0 (bit ended) 1) (comparedCounts want c)
 comparedStream (StreamAnswer.Full c) ended want = firstOf (compared Part.Ended 0 (bit ended) 0) (comparedCounts want c)
 comparedStream (StreamAnswer.Refused r) ended want = comparedRefusal 0 (number r)
+
+-- whether there is a hit, where none is refused, and what differs else
+abbrev pub foundFirst : ℕ → ℕ → ℕ → Difference → Difference
+foundFirst refusal found got rest = firstOf (comparedRefusal refusal 0) (firstOf (compared Part.Found 0 found got) rest)
+
+-- last place, pattern number and values read
+abbrev pub comparedHit : ℕ → ℕ → Hit → ℕ → Hit → Difference
+comparedHit refusal found want got h =
+    foundFirst refusal found got
+    (firstOf (compared Part.LastPlace 0 (want .last) (h .last))
+    (firstOf (compared Part.Pattern 0 (want .pattern) (h .pattern)) (compared Part.Read 0 (want .read) (h .read))))
+
+-- a first hit, or none
+abbrev pub comparedFirst : FirstHit → ℕ → ℕ → Hit → Difference
+comparedFirst (FirstHit.Found h) refusal found want = comparedHit refusal found want 1 h
+comparedFirst (FirstHit.NoHit n) refusal found want = comparedHit refusal found want 0 (record { last = 0; pattern = 0; read = n })
+comparedFirst (FirstHit.Refused r) refusal found want = comparedRefusal refusal (number r)

@@ -42,6 +42,11 @@ pub enum Part {
     // of a catalogue
     Last,
     Lists,
+    // of a first hit
+    Found,
+    LastPlace,
+    Pattern,
+    Read,
 }
 
 // Nothing differs, or what does, what was expected and what came. Of arrays and texts the place is

@@ -3,13 +3,15 @@
 ghost use Rattle.lists.specs.Prelude.{_≡_};
 ghost use Rattle.answers.specs.Told.{number as refusalNumber, toldStreamed};
 ghost use Rattle.test_differences.specs.Expect.{comparedRefusal, comparedSizes, comparedWritten, comparedNext, comparedSet, comparedBuilt};
-ghost use Rattle.test_differences.specs.Expect.{comparedFiltered, comparedCounts, comparedStream};
+ghost use Rattle.test_differences.specs.Expect.{comparedFiltered, comparedCounts, comparedStream, foundFirst, comparedHit, comparedFirst};
 use super::difference;
 use super::difference::Difference;
 use super::difference::Part;
 use answers::Built;
 use answers::Counts;
 use answers::Filtered;
+use answers::FirstHit;
+use answers::Hit;
 use answers::NextList;
 use answers::Refusal;
 use answers::SetSize;
@@ -154,5 +156,43 @@ pub fn stream_refused(a: StreamAnswer, number: u64) -> Difference
         StreamAnswer::Ended(_) => accepted(number),
         StreamAnswer::Full(_) => accepted(number),
         StreamAnswer::Refused(r) => refused(number, r),
+    }
+}
+
+// Whether there is a hit, 1 where there is, and the hit, with no refusal before them.
+fn hit(number: u64, found: u64, want: Hit, got: u64, h: Hit) -> Difference
+    ensures { λ d. ⌜ d ≡ comparedHit number found want got h ⌝ }
+{
+    let last = difference::expect_size(Part::LastPlace, want.last, h.last);
+    let pattern = difference::expect_size(Part::Pattern, want.pattern, h.pattern);
+    let read = difference::expect_size(Part::Read, want.read, h.read);
+    let all = difference::first(last, difference::first(pattern, read));
+    found_first(number, found, got, all)
+}
+
+// Whether there is a hit, with no refusal before it, and then what differs else.
+fn found_first(number: u64, found: u64, got: u64, rest: Difference) -> Difference
+    ensures { λ d. ⌜ d ≡ foundFirst number found got rest ⌝ }
+{
+    let some = difference::expect(Part::Found, found, got);
+    difference::first(accepted(number), difference::first(some, rest))
+}
+
+// A first hit, or none, where 1 or 0 is expected to be found; where there is none, place and number
+// are 0.
+pub fn first_hit(a: FirstHit, number: u64, found: u64, want: Hit) -> Difference
+    ensures { λ d. ⌜ d ≡ comparedFirst a number found want ⌝ }
+{
+    match a {
+        FirstHit::Found(h) => hit(number, found, want, 1, h),
+        FirstHit::NoHit(n) => {
+            let none = Hit {
+                last: 0,
+                pattern: 0,
+                read: n,
+            };
+            hit(number, found, want, 0, none)
+        },
+        FirstHit::Refused(r) => refused(number, r),
     }
 }

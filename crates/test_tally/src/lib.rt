@@ -97,7 +97,7 @@ fn print_one(names: &[u8], n: usize) {
 }
 
 // The number of a part: its place among the names below, of answers, then of states, of arrays, of
-// tests and of catalogues.
+// tests, of catalogues and of first hits.
 fn number(part: Part) -> usize {
     match part {
         Part::Refusal => 0,
@@ -129,6 +129,10 @@ fn number(part: Part) -> usize {
         Part::Room => 26,
         Part::Last => 27,
         Part::Lists => 28,
+        Part::Found => 29,
+        Part::LastPlace => 30,
+        Part::Pattern => 31,
+        Part::Read => 32,
     }
 }
 
@@ -169,6 +173,14 @@ fn print_of_catalogue(n: usize) {
     print_one(b"whether the list is the last one;lists of the length", n);
 }
 
+// Prints the name of a part of a first hit.
+fn print_of_hit(n: usize) {
+    print_one(
+        b"whether there is a hit;last place;pattern number;values read",
+        n,
+    );
+}
+
 // Prints the name of a part.
 fn print_part(part: Part) {
     let n = number(part);
@@ -184,7 +196,10 @@ fn print_part(part: Part) {
     if n < 27 {
         return print_of_test(n - 24);
     }
-    print_of_catalogue(n - 27)
+    if n < 29 {
+        return print_of_catalogue(n - 27);
+    }
+    print_of_hit(n - 29)
 }
 
 // Whether a part is printed with its place.

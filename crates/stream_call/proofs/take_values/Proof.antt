@@ -10,7 +10,8 @@ use Rattle.automaton_lookup.proofs.Words.{made-good}
 use Rattle.search_model.proofs.Good.{good, good-few}
 use Rattle.open_minima.specs.Parts.{ringFrom, AreCounters}
 use Rattle.stream_call.specs.declared.Taken.{Taken}
-use Rattle.stream_call.specs.Taken.{stateFrom, IsTaken}
+use Rattle.read_value.specs.Read.{stateFrom}
+use Rattle.stream_call.specs.Taken.{IsTaken}
 use Rattle.stream_call.proofs.Taking.{Taking, entered, entered-is, entered-counters, taking-start, taking-more, taking-ended, taking-full}
 use Rattle.stream_call.proofs.take_values.Statement.{statement}
 use Rattle.stream_call.proofs.take_values.Tie as tie
@@ -168,23 +169,23 @@ loop-again c = let after = c .before .before .before .before in (more after, aft
 
 -- ---- after the loop
 
-cast-t30 : tie.Need-cast-t30 Inv-loop μ-loop
-cast-t30 c =
+cast-reached : tie.Need-cast-reached Inv-loop μ-loop
+cast-reached c =
     let made = begun (c .before) .pre .0 .made in
     let ws = begun (c .before) .args .set .now in
     omega (arith, c .before .loop .inv .0 .node, length-nodes (patternsOf ws), total-le ws (made .isSet))
 
-sub-t18 : tie.Need-sub-t18 Inv-loop μ-loop
-sub-t18 c = omega (arith, c .before .loop .inv .1 .ordered)
+sub-minima : tie.Need-sub-minima Inv-loop μ-loop
+sub-minima c = omega (arith, c .before .loop .inv .1 .ordered)
 
-cast-t31 : tie.Need-cast-t31 Inv-loop μ-loop
-cast-t31 c =
+cast-minima : tie.Need-cast-minima Inv-loop μ-loop
+cast-minima c =
     let L = c .before .loop in
     let r = ringFrom (L .first) (L .next) (L .places) (L .heights) in
     omega (arith, good-few (L .taken) r (good (L .taken) r (L .inv .0 .ring)))
 
-cast-t33 : tie.Need-cast-t33 Inv-loop μ-loop
-cast-t33 c = search needs
+cast-slot : tie.Need-cast-slot Inv-loop μ-loop
+cast-slot c = search needs
 
 same-length : tie.Need-same-length Inv-loop μ-loop
 same-length c = search needs
@@ -234,9 +235,9 @@ take-values-spec =
     add-i
     loop-less
     loop-again
-    cast-t30
-    sub-t18
-    cast-t31
-    cast-t33
+    cast-reached
+    sub-minima
+    cast-minima
+    cast-slot
     same-length
     returns)
