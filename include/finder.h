@@ -27,6 +27,7 @@
  *   12  a catalogue is involved and the distance list is longer than 10
  *   13  a pattern given as values holds a gap
  *   14  no pattern of the set has the number
+ *   15  a pattern of one value is added, or the set that is to be searched holds one
  */
 #ifndef FINDER_H
 #define FINDER_H
@@ -137,7 +138,7 @@ FinderWritten finder_empty_set(uint32_t *set, size_t room);
 FinderCounts finder_check_set(const uint32_t *set, size_t words);
 
 /* Adds a pattern, given as n values, as the last one; tells the patterns and the distances then. The set uses 3 words and one for
- * each pattern and each distance. Refuses 1, 2, 13, 5, 6, 10 (too few words for the larger set). */
+ * each pattern and each distance. Refuses 1, 2, 13, 5, 6, 15 (n is 1), 10 (too few words for the larger set). */
 FinderCounts finder_add_pattern(uint32_t *set, size_t words, const int32_t *values, size_t n);
 
 /* Withdraws the pattern of a number, counted from 0: higher numbers move down by one; tells the patterns and the distances that are
@@ -145,10 +146,11 @@ FinderCounts finder_add_pattern(uint32_t *set, size_t words, const int32_t *valu
  * were. An automaton of the set before is none of the smaller one: build it anew, and begin a new search. Refuses 5, 14. */
 FinderCounts finder_withdraw_pattern(uint32_t *set, size_t words, size_t number);
 
-/* ---- automaton and searches */
+/* ---- automaton and searches, over a set that may be searched: it holds a pattern, and none of one value (15). A stored set that
+ * holds one can be checked, added to and withdrawn from, and be searched once that is withdrawn. */
 
 /* Writes the automaton of a set with D distances into an array of at least 16 * (1 + D) words; tells its nodes (first) and the
- * words used (second). Words behind them are as they were. Refuses 1, 5, 10. */
+ * words used (second). Words behind them are as they were. Refuses 1, 5, 15, 10. */
 FinderCounts finder_build_automaton(const uint32_t *set, size_t set_words, uint32_t *out, size_t room);
 
 /* The state of a new search. */
@@ -157,21 +159,21 @@ FinderState finder_new_search(void);
 /* Takes values until they end, or until fewer than two words a pattern are free in the hit array and values are left (full: call
  * again with the rest and the state returned). Writes the hits that end at the values taken to the front of the hit array: two
  * words each, the last place in the whole text and the pattern number; by place, longer pattern first, then lower number. Words
- * behind them are as they were. A gap is taken as a value and makes no attempt; after it the search begins anew. Refuses 1, 5, 7,
- * 8, 9, 10 (hits_room < 2 * patterns). */
+ * behind them are as they were. A gap is taken as a value and makes no attempt; after it the search begins anew. Refuses 1, 5,
+ * 15, 7, 8, 9, 10 (hits_room < 2 * patterns). */
 FinderStreamed finder_stream_search(const uint32_t *set, size_t set_words, const uint32_t *automaton, size_t automaton_words,
                                     FinderState state, const int32_t *values, size_t n, uint32_t *hits, size_t hits_room);
 
 /* Tells the first hit of a whole text, the first of the list that the searches write: by last place, longer pattern first, then
  * lower number. Reads up to and with its last place, and nothing behind it; where there is no hit, all. Writes nothing. Refuses 1,
- * 5, 7, 9. */
+ * 5, 15, 7, 9. */
 FinderFirstHit finder_first_hit(const uint32_t *set, size_t set_words, const uint32_t *automaton, size_t automaton_words,
                                 const int32_t *text, size_t n);
 
 /* Writes all hits of a whole text, the same list; tells the hits (first) and the candidates (second). A candidate is a pair of a
  * pattern and a window within the text, without a gap, whose last b values fall at the same places (they have one fingerprint),
  * where b is the length of the shortest pattern, 17 at most. Every hit is a candidate, and not every candidate need be checked.
- * Refuses 1, 5, 9, 11, and has then written nothing. */
+ * Refuses 1, 5, 15, 9, 11, and has then written nothing. */
 FinderCounts finder_filter_search(const uint32_t *set, size_t set_words, const int32_t *text, size_t n, uint32_t *hits,
                                   size_t hits_room);
 

@@ -188,7 +188,7 @@ def case_add(ws, xs):
     ps = read_set(ws)
     total = sum(map(len, ps or [])) + len(xs)
     r = first([(1, not xs), (2, len(xs) > 256), (13, GAP in xs), (5, ps is None)])
-    r = r or first([(6, len(ps) >= 64 or total > 4096), (10, len(ws) < 4 + len(ps) + total)])
+    r = r or first([(6, len(ps) >= 64 or total > 4096), (15, len(xs) == 1), (10, len(ws) < 4 + len(ps) + total)])
     if r:
         cases.append([9, len(ws), *ws, len(xs), *xs, r, 0, 0, *ws])
         return ws
@@ -315,18 +315,23 @@ for i in range(len(good)):
 full = set_words([[0] * 256] * 16)
 case_check(full)
 case_check(set_words([[0] * 256] * 16 + [[0]]))
-case_add(full + [7, 7], [3])
-case_add(set_words([[0] * 256] * 15 + [[0] * 255]) + [7] * 5, [3])
-case_add(set_words([[0] * 256] * 15 + [[0] * 255]) + [7] * 5, [3, 4])
-many = set_words([[0]] * 63) + [7] * 6
-many = case_add(many, [5])
-case_add(many, [5])
+# 4,096 distances with the pattern, and one more, which is 6; a pattern of one value is 15 where it is not 6
+for n, xs in ((256, [3]), (256, [3, 4]), (255, [3]), (255, [3, 4]), (254, [3, 4]), (254, [3, 4, 5])):
+    case_add(set_words([[0] * 256] * 15 + [[0] * n]) + [7] * 5, xs)
+# 64 patterns with the pattern, and one more, which is 6
+many, ones = (set_words([p] * 63) + [7] * 6 for p in ([0, 1], [0]))
+for ws in (many, ones):
+    case_add(ws, [5])
+many, ones = case_add(many, [5, 5]), case_add(ones, [5, 5])
+for ws in (many, ones):
+    case_add(ws, [5])
+    case_add(ws, [5, 5])
 for n in (0, 1, 256, 257):
     case_add([0, 0, 0] + [7] * 300, values(n, 4))
-case_add([0, 0, 0, 7], [1])
-case_add([0, 0, 0, 7, 7], [1])
-case_add([0, 0, 7, 7, 7], [1])
-case_add([0, 0, 7, 7, 7], [])
+# arrays that are just long enough, too short, and no sets
+for ws in ([0, 0, 0, 7, 7, 7], [0, 0, 0, 7, 7], [0, 0, 0, 7], [0, 0, 0], [0, 0, 7, 7, 7, 7], [0, 0], []):
+    for xs in ([1], [1, 2], []):
+        case_add(ws, xs)
 case_add([0, 0, 7, 7, 7], values(257, 4))
 # gaps at the first place, in the middle and at the last, and the lowest sample there: into an array with room, one that is too short,
 # one that is no set, sets that hold 64 patterns or 4,096 distances; too many values before it all
@@ -351,6 +356,16 @@ for _ in range(12):
         if xs and random.random() < 0.2:
             ws = case_add(ws, xs[:-1] + [GAP])
     case_check(ws)
+# stored sets that hold patterns of one value are good: they are checked, and take patterns of two values and more
+for ps in ([[0]], [[0], [0]], [[0], [0, 1]], [[0, 0], [0]], [[0, 0, 1], [0], [0, 1], [0]]):
+    for behind in ([], [7] * 2, [7] * 3, [7] * 4):
+        case_check(set_words(ps) + behind)
+        for xs in ([4], [4, 2], [4, 2, 3], [GAP], [GAP, 1]):
+            case_add(set_words(ps) + behind, xs)
+    # broken: a distance that no value has, a length of 0, a word too few
+    case_add(set_words(ps[:-1] + [[1]]) + [7] * 4, [4])
+    case_add(set_words(ps + [[]]) + [7] * 4, [4])
+    case_add(set_words(ps)[:-1], [4])
 
 # ---- next lists: all of the lengths up to 7, those up to 6 held to the distances of all values; then longer ones, and refusals
 for n in range(1, 8):
@@ -396,15 +411,16 @@ for ws in ([], [0], [0, 0], [0, 0, 0], [0, 0, 0, 7], [0, 0, 7], [0, 1, 0], [1, 1
 # patterns of 256 distances, 64 patterns, 4,096 distances, both
 for j in range(4):
     case_withdraw(set_words([[0] * 256, [0], list(range(256))]) + [7], j)
-for j in (0, 31, 63, 64):
-    case_withdraw(many, j)
+for ws in (many, ones):
+    for j in (0, 31, 63, 64):
+        case_withdraw(ws, j)
 for ps in ([[0] * 256] * 16, [distances(values(64, 5)) for _ in range(64)]):
     for j in (0, len(ps) // 2, len(ps) - 1):
         case_withdraw(set_words(ps) + [7, 7], j)
-# adds and withdrawals in random order; some patterns are added twice
-for _ in range(12):
-    ws = [0, 0, 0] + [random.randint(0, 9) for _ in range(60)]
-    xs = [1]
+# adds and withdrawals in random order, from the empty set on and from stored sets; some patterns are added twice
+for k in range(14):
+    ws = set_words(mixed[:k % 7]) + [random.randint(0, 9) for _ in range(60)]
+    xs = [1, 1]
     for _ in range(16):
         if random.random() < 0.6:
             xs = xs if random.random() < 0.3 else values(random.randint(1, 9), random.choice((1, 3, 1000)))

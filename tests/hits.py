@@ -68,8 +68,9 @@ def pipe_cases():
         case("the example in parts", EXAMPLE, ANSWER, part)
         case("bad input in parts", EXAMPLE[:-1], BAD, part)
         case("no shapes in parts", b"\n1\n", b"refused 1\n", part)
+        case("one reading in parts", b"1\n\n1\n", b"refused 15\n", part)
     rng = random.Random(3)
-    shapes = [[rng.randrange(6) for _ in range(n)] for n in (1, 2, 3, 3, 4)]
+    shapes = [[rng.randrange(6) for _ in range(n)] for n in (2, 2, 3, 3, 4)]
     data = text_of(shapes, [rng.randrange(9) for _ in range(3000)])
     for part in (11, 100, 1000):
         case("an input in parts", data, None, part)
@@ -79,8 +80,8 @@ def page_cases():
     """The examples of docs/HITS.md: a command that makes an input, and below it what is printed."""
     page = (pathlib.Path(__file__).resolve().parent.parent / "docs" / "HITS.md").read_text()
     examples = re.findall(r"^    \$ (.*) \| target/bin/hits\n((?:    [^$\n].*\n)+)", page, re.M)
-    if len(examples) != 5:
-        sys.exit("FAILED: docs/HITS.md has %d examples, expected 5" % len(examples))
+    if len(examples) != 6:
+        sys.exit("FAILED: docs/HITS.md has %d examples, expected 6" % len(examples))
     for command, lines in examples:
         data = subprocess.run(["sh", "-c", command], stdout=subprocess.PIPE, check=True).stdout
         case("an example of docs/HITS.md", data, re.sub(r"^    ", "", lines, flags=re.M).encode())
@@ -91,6 +92,7 @@ hits_inputs.form_cases(case)
 hits_inputs.number_cases(case)
 hits_inputs.size_cases(case)
 hits_inputs.gap_cases(case)
+hits_inputs.one_reading_cases(case)
 hits_inputs.call_cases(case)
 pipe_cases()
 hits_inputs.random_cases(case, 400)

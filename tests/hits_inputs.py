@@ -69,6 +69,8 @@ def refusal(shapes):
             return 13
         if k == 64:
             return 6
+        if len(shape) == 1:
+            return 15
     return None if shapes else 1
 
 
@@ -167,12 +169,13 @@ def number_cases(case):
     for word in good:
         case("a good number in a shape", ("1 %s 2\n\n1 2 3 1\n" % word).encode())
         case("a good number in the recording", ("1 2\n\n1 2 %s 3 1\n" % word).encode())
-        case("a good number alone", ("%s\n\n%s\n" % (word, word)).encode(), b"end shape length\n0 0 1\ntrials 1\n")
+        case("a good number alone", ("%s\n\n%s\n" % (word, word)).encode(), b"refused 15\n")
+        case("a good number twice", ("%s %s\n\n%s %s\n" % (word, word, word, word)).encode(), b"end shape length\n1 0 2\ntrials 2\n")
     for word in gaps:
         case("a gap in a shape", ("1 %s 2\n\n1 2 3 1\n" % word).encode(), b"refused 13\n")
         case("a gap in the recording", ("1 2\n\n1 2 %s 3 4\n" % word).encode(), b"end shape length\n1 0 2\n4 0 2\ntrials 4\n")
         case("a gap alone", ("%s\n\n%s\n" % (word, word)).encode(), b"refused 13\n")
-        case("a gap alone in the recording", ("1\n\n%s\n" % word).encode(), b"end shape length\ntrials 0\n")
+        case("a gap alone in the recording", ("1 2\n\n%s\n" % word).encode(), b"end shape length\ntrials 0\n")
     for word in bad:
         case("a bad number in a shape", ("1 %s 2\n\n1 2 3 1\n" % word).encode(), BAD)
         case("a bad number in the recording", ("1 2\n\n1 2 %s 3 1\n" % word).encode(), BAD)
@@ -190,14 +193,16 @@ def size_cases(case):
     many = [rng.randrange(50) for _ in range(400)]
     case("256 in a shape", text_of([many[:256]], many))
     case("257 in a shape", text_of([many[:257]], many), b"refused 2\n")
-    case("257 in the second shape", text_of([[1], many[:257]], many), b"refused 2\n")
+    case("257 in the second shape", text_of([[1, 2], many[:257]], many), b"refused 2\n")
     case("257 in a shape and a bad number later", text_of([many[:257]], many) + b"x", BAD)
     case("64 shapes", text_of([[1, 2]] * 64, many[:20]))
     case("65 shapes", text_of([[1, 2]] * 65, many[:20]), b"refused 6\n")
     case("66 shapes", text_of([[1, 2]] * 66, many[:20]), b"refused 6\n")
     case("65 shapes, the last too long", text_of([[1, 2]] * 64 + [many[:257]], [1]), b"refused 2\n")
-    case("257 readings, then 65 shapes", text_of([many[:257]] + [[1]] * 64, [1]), b"refused 2\n")
-    case("1,023 shapes of one reading", text_of([[1]] * 1023, [1]), b"refused 6\n")
+    case("257 readings, then 65 shapes", text_of([many[:257]] + [[1, 2]] * 64, [1]), b"refused 2\n")
+    case("511 shapes, 1,023 readings", text_of([[1, 1]] * 510 + [[1, 1, 1]], [1]), b"refused 6\n")
+    case("512 shapes, 1,024 readings", text_of([[1, 1]] * 512, [1]), BAD)
+    case("1,023 shapes of one reading", text_of([[1]] * 1023, [1]), b"refused 15\n")
     case("1,024 shapes of one reading", text_of([[1]] * 1024, [1]), BAD)
     case("1,023 in one shape", text_of([[1] * 1023], [1]), b"refused 2\n")
     case("1,024 in one shape", text_of([[1] * 1024], [1]), BAD)
@@ -214,11 +219,13 @@ def size_cases(case):
     case("200,000 bytes", pad(EXAMPLE, 200000), BAD)
     case("65,536 good bytes and more", pad(EXAMPLE, 65536) + b"\n", BAD)
     case("65,536 good bytes and 10,000 more", pad(EXAMPLE, 65536) + b"1" * 10000, BAD)
-    front = b"1\n\n"
+    front = b"1 1\n\n"
     room = (65536 - len(front)) // 2
     case("the longest recording", front + b" ".join([b"7"] * room) + b"\n")
     case("the longest recording and one byte", front + b" ".join([b"7"] * room) + b"1\n")
     case("the longest recording and two bytes", front + b" ".join([b"7"] * (room + 1)) + b"\n", BAD)
+    case("the longest recording and a shape of one reading", b"1\n\n" + b" ".join([b"7"] * (room + 1)) + b"\n", b"refused 15\n")
+    case("the longest recording and no shape", b"\n" + b" ".join([b"7"] * (room + 2)) + b"\n", b"refused 1\n")
     case("only newlines", b"\n" * 65536, BAD)
 
 
@@ -230,8 +237,9 @@ def gap_cases(case):
     case("a gap last", text_of([[1, 2]], [1, 2, GAP]), b"end shape length\n1 0 2\ntrials 2\n")
     case("a gap between", text_of([[1, 2]], [1, GAP, 2]), b"end shape length\ntrials 2\n")
     case("a gap is no lowest reading", text_of([[2, 1], [1, 2], [2, 1, 2]], [5, GAP, 5]), b"end shape length\ntrials 2\n")
-    case("gaps only", text_of([[1], [1, 2]], [GAP] * 5), NOTHING)
-    case("one reading a shape, and gaps", text_of([[7]], [GAP, 3, GAP, GAP, 4, 5, GAP]), b"end shape length\n1 0 1\n4 0 1\n5 0 1\ntrials 4\n")
+    case("gaps only", text_of([[2, 1], [1, 2]], [GAP] * 5), NOTHING)
+    case("single readings, and gaps", text_of([[2, 1], [1, 2]], [GAP, 3, GAP, GAP, 4, GAP, 5]), b"end shape length\ntrials 3\n")
+    case("two readings a shape, and gaps", text_of([[7, 7]], [GAP, 3, 3, GAP, GAP, 4, 5, 5, GAP]), b"end shape length\n2 0 2\n6 0 2\n7 0 2\ntrials 6\n")
     case("a tail of equal trees, and a gap", text_of([[1, 1, 1]], [1, 1, 1, GAP, 1, 1, 1, 1]), b"end shape length\n2 0 3\n6 0 3\n7 0 3\ntrials 8\n")
     many = [1 + i % 7 for i in range(257)]
     for place in (0, 1, 128, 254, 255):
@@ -239,10 +247,10 @@ def gap_cases(case):
     case("too long, with a gap", text_of([many[:256] + [GAP]], [1]), b"refused 2\n")
     case("a gap, then too long", text_of([[GAP], many], [1]), b"refused 13\n")
     case("too long, then a gap", text_of([many, [GAP]], [1]), b"refused 2\n")
-    case("a gap in the 64th shape", text_of([[1]] * 63 + [[1, GAP]], [1]), b"refused 13\n")
-    case("a gap in the 65th shape", text_of([[1]] * 64 + [[1, GAP]], [1]), b"refused 13\n")
-    case("a gap in the 66th shape", text_of([[1]] * 65 + [[1, GAP]], [1]), b"refused 6\n")
-    case("a gap in the first of 65 shapes", text_of([[GAP]] + [[1]] * 64, [1]), b"refused 13\n")
+    case("a gap in the 64th shape", text_of([[1, 2]] * 63 + [[1, GAP]], [1]), b"refused 13\n")
+    case("a gap in the 65th shape", text_of([[1, 2]] * 64 + [[1, GAP]], [1]), b"refused 13\n")
+    case("a gap in the 66th shape", text_of([[1, 2]] * 65 + [[1, GAP]], [1]), b"refused 6\n")
+    case("a gap in the first of 65 shapes", text_of([[GAP]] + [[1, 2]] * 64, [1]), b"refused 13\n")
     case("a gap in a shape and one too low in the recording", text_of([[GAP]], [GAP - 1]), BAD)
     case("one too low in a shape and a gap in the recording", text_of([[GAP - 1]], [GAP]), BAD)
     case("a gap in a shape and a bad byte later", text_of([[GAP]], [1]) + b"x", BAD)
@@ -252,21 +260,56 @@ def gap_cases(case):
             recording = [rng.randrange(3) for _ in range(first + 2 * every + 5)]
             behind = recording[first + 1 :]
             gaps = [GAP if i >= first and (i - first) % every == 0 else x for i, x in enumerate(recording)]
-            case("gaps at every %d readings" % every, text_of([behind[: max(n, 1)] for n in (1, 2, every - 1, min(every, 256))], gaps))
+            case("gaps at every %d readings" % every, text_of([behind[: max(n, 2)] for n in (2, 3, every - 1, min(every, 256))], gaps))
+
+
+ONE = b"refused 15\n"
+
+
+def one_reading_cases(case):
+    """Shapes of one reading, in their turn behind the other refusals of the same shape; the first shape that is refused decides."""
+    two, long, gap = [5, 5], [5] * 257, [GAP]
+    case("one reading", text_of([[5]], [1, 2, 3]), ONE)
+    case("one reading, empty recording", text_of([[5]], []), ONE)
+    case("one reading and gaps", text_of([[5]], [GAP, 1, GAP]), ONE)
+    case("one lowest reading", text_of([[GAP + 1]], [1]), ONE)
+    case("one reading that is a gap", text_of([gap], [1]), b"refused 13\n")
+    for place in (0, 31, 63):
+        shapes = [two] * place + [[5]] + [two] * (63 - place)
+        case("one reading in shape %d of 64" % (place + 1), text_of(shapes, [1]), ONE)
+        case("one reading in shape %d of 65" % (place + 1), text_of(shapes + [two], [1]), ONE)
+    case("one reading in the 65th shape", text_of([two] * 64 + [[5]], [1]), b"refused 6\n")
+    case("one reading in the 66th shape", text_of([two] * 65 + [[5]], [1]), b"refused 6\n")
+    case("one gap in the 65th shape", text_of([two] * 64 + [gap], [1]), b"refused 13\n")
+    case("one reading, then too long", text_of([[5], long], [1]), ONE)
+    case("too long, then one reading", text_of([long, [5]], [1]), b"refused 2\n")
+    case("one reading, then a gap", text_of([two, [5], gap], [1]), ONE)
+    case("a gap, then one reading", text_of([two, gap, [5]], [1]), b"refused 13\n")
+    case("two shapes of one reading", text_of([[5], [5]], [1]), ONE)
+    case("64 shapes of one reading", text_of([[5]] * 64, [1]), ONE)
+    case("65 shapes of one reading", text_of([[5]] * 65, [1]), ONE)
+    case("one reading and a bad byte later", text_of([[5]], [1]) + b"x", BAD)
+    case("one reading too low", text_of([[GAP - 1]], [1]), BAD)
+    case("1,024 readings, the first shape of one", text_of([[5]] + [two] * 511 + [[5]], [1]), BAD)
+
+
+def rising(rng, count):
+    """Readings that do not fall: a shape of two equal ones ends at each but the first."""
+    return sorted(rng.randrange(10) for _ in range(count))
 
 
 def call_cases(case):
     """More hits than one array takes."""
     rng = random.Random(2)
     for count in (4095, 4096, 4097, 8191, 8192, 8193, 4032, 4033, 4064, 20000):
-        case("%d hits of one shape" % count, text_of([[5]], [rng.randrange(10) for _ in range(count)]))
+        case("%d hits of one shape" % count, text_of([[5, 5]], rising(rng, count + 1)))
     for count in (32, 63, 64, 65, 66, 127, 128, 129, 1000, 5000):
-        case("64 equal shapes, %d readings" % count, text_of([[5]] * 64, [rng.randrange(10) for _ in range(count)]))
-    longs = [[rng.randrange(4) for _ in range(n)] for n in (1, 2, 2, 3, 3, 3, 4, 4, 4, 4, 5, 5, 5, 6, 6)]
+        case("64 equal shapes, %d hits each" % count, text_of([[5, 5]] * 64, rising(rng, count + 1)))
+    longs = [[rng.randrange(4) for _ in range(n)] for n in (2, 2, 2, 3, 3, 3, 4, 4, 4, 4, 5, 5, 5, 6, 6)]
     for _ in range(4):
         case("many shapes, many hits", text_of(longs, [rng.randrange(5) for _ in range(6000)]))
     case("64 shapes, 1,023 readings, many hits", text_of([list(range(16 if j else 15)) for j in range(64)], list(range(3000))))
-    case("a shape of each length up to 44", text_of([[1] * n for n in range(1, 45)], [3] * 3000))
+    case("a shape of each length from 2 to 44", text_of([[1] * n for n in range(2, 45)], [3] * 3000))
 
 
 def random_cases(case, count):
@@ -275,8 +318,8 @@ def random_cases(case, count):
         width = rng.choice([2, 3, 5, 10, 1000, 2**31])
         low = rng.choice([0, -(width // 2), GAP + 1]) if width < 2**31 else GAP + 1
         value = lambda: rng.randrange(low, min(low + 2 * width, HIGHEST + 1))
-        longest = rng.choice([1, 2, 3, 5, 8, 12])
-        shapes = [[value() for _ in range(rng.randrange(1, longest + 1))] for _ in range(rng.randrange(1, rng.choice([2, 5, 12, 65])))]
+        longest = rng.choice([2, 2, 3, 5, 8, 12])
+        shapes = [[value() for _ in range(rng.randrange(2, longest + 1))] for _ in range(rng.randrange(1, rng.choice([2, 5, 12, 65])))]
         recording = [value() for _ in range(rng.randrange(rng.choice([3, 20, 60, 200, 600])))]
         for shape in list(shapes):
             if rng.random() < 0.3:
@@ -287,9 +330,11 @@ def random_cases(case, count):
             recording = [GAP if rng.randrange(one_of) == 0 else x for x in recording]
         if rng.random() < 0.04:
             rng.choice(shapes)[-1] = GAP
+        if rng.random() < 0.04:
+            del rng.choice(shapes)[1:]
         case("random", text_of(shapes, recording))
     for _ in range(count):
-        data = bytearray(EXAMPLE if rng.random() < 0.5 else b"-10 3\n3\n0 -2 7\n\n4 4 -5 66 2\n")
+        data = bytearray(EXAMPLE if rng.random() < 0.5 else b"-10 3\n3 3\n0 -2 7\n\n4 4 -5 66 2\n")
         for _ in range(rng.randrange(1, 4)):
             at = rng.randrange(len(data))
             kind = rng.randrange(3)
@@ -348,7 +393,7 @@ def runs(xs):
 written, size = 0, 0
 
 
-def write(data, room, longest=9000):
+def write(data, room, longest):
     """One case, unless it is too long to be written down."""
     global written, size
     apart = taken_apart(data)
@@ -371,16 +416,16 @@ def write(data, room, longest=9000):
         size += len(block)
 
 
-def write_case(name, data, want=None, part=0):
+def write_case(name, data, want=None, part=0, longest=9000):
     """An input with the hit array of the program, and one with the shortest that takes the shapes."""
     if want is not None and expected(data) != want:
         sys.exit("%s: expected %r" % (name, expected(data)))
     if part:
         return
-    write(data, 8192)
+    write(data, 8192, longest)
     apart = taken_apart(data)
     if apart is not None and refusal(apart[0]) is None and len(data) < 4000:
-        write(data, 2 * len(apart[0]))
+        write(data, 2 * len(apart[0]), longest)
 
 
 if __name__ == "__main__":
@@ -388,7 +433,8 @@ if __name__ == "__main__":
     number_cases(write_case)
     size_cases(write_case)
     gap_cases(write_case)
-    random_cases(write_case, 60)
-    write(text_of([[5]], [5] * 4097), 8192, 40000)
+    one_reading_cases(write_case)
+    random_cases(functools.partial(write_case, longest=4000), 60)
+    write(text_of([[5, 5]], [5] * 4098), 8192, 40000)
     write_case("the longest recording, and no hit", b"2 1\n\n" + b" ".join([b"7"] * 32765) + b"\n")
     print("%d cases, %d bytes" % (written, size), file=sys.stderr)

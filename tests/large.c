@@ -174,6 +174,7 @@ static void whole_text(void)
 {
     static const int32_t patterns[3][4] = {{1, 3, 2, 2}, {2, 1, 2, 0}, {5, 5, 0, 0}};
     static const size_t lengths[3] = {4, 3, 2};
+    static const uint32_t one[5] = {1, 1, 0, 1, 0};
     enum { SET = 64, AUTOMATON = 4096 };
     size_t room = 4u * LONGEST, count, listed;
     uint32_t set[SET], automaton[AUTOMATON];
@@ -211,14 +212,18 @@ static void whole_text(void)
     check(filter_refuses(set, SET, text, LONGEST, out, 0, room, 11), "an array of no words is 11");
     check(filter_refuses(set, SET, text, LONGEST + 1, out, room, room, 9), "1,048,577 values are 9");
     check(filter_refuses(set, SET, text, LONGEST + 1, out, 0, room, 9), "and 9 before 11");
+    check(filter_refuses(one, 5, text, LONGEST + 1, out, 0, room, 15), "a set that holds a pattern of one value is 15, before 9");
 
     check(finds_first(set, SET, automaton, AUTOMATON, text, LONGEST, plain, listed), "the first hit of 1,048,576 values is the plain listing's");
     check(first_refuses(set, SET, automaton, AUTOMATON, text, LONGEST + 1, 9), "1,048,577 values are 9, though a hit is at the front");
     check(first_refuses(set, SET, automaton, AUTOMATON - 1, text, LONGEST + 1, 9), "an automaton array may be longer than the automaton");
     check(first_refuses(set, SET, automaton, built.second - 1, text, LONGEST + 1, 7), "and 7 before 9");
+    check(first_refuses(one, 5, automaton, 0, text, LONGEST + 1, 15), "and 15 before 7");
+    check(first_refuses(one, 4, automaton, 0, text, LONGEST + 1, 5), "and 5 before 15, where a word of it is missing");
     check(first_refuses(set, 4, automaton, 0, text, LONGEST + 1, 5), "and 5 before 7");
 
     check(refuses(set, SET, automaton, AUTOMATON, finder_new_search(), text, LONGEST + 1, out, 64, 9), "1,048,577 values in a first call are 9");
+    check(refuses(one, 5, automaton, 0, finder_new_search(), text, LONGEST + 1, out, 0, 15), "and 15 over a set that holds a pattern of one value");
     FinderState part = after(set, SET, automaton, AUTOMATON, text, 1000000, 4096, run, &count, &good);
     check(good && memcmp(run, plain, 2 * count * sizeof *plain) == 0, "1,000,000 values in calls over a longer hit array");
     check(refuses(set, SET, automaton, AUTOMATON, part, text, LONGEST - 1000000 + 1, out, 64, 9), "9 counts from the values taken");
@@ -303,6 +308,8 @@ static void full_set(void)
     check(c.refusal == 0 && c.first == 64 && c.second == 4096, "the full set has 64 patterns and 4,096 distances");
     memcpy(run, set, SET * sizeof *set);
     c = finder_add_pattern(set, SET, values, 1);
+    check(c.refusal == 6 && c.first == 0 && c.second == 0 && memcmp(run, set, SET * sizeof *set) == 0, "one of one value more is 6, and the set as it was");
+    c = finder_add_pattern(set, SET, values, 64);
     check(c.refusal == 6 && c.first == 0 && c.second == 0 && memcmp(run, set, SET * sizeof *set) == 0, "one pattern more is 6, and the set as it was");
 
     c = finder_build_automaton(set, USED, automaton, 16 * 4097 - 1);
@@ -347,28 +354,30 @@ static void full_set(void)
 /* 1,048,576 gaps: all are taken, and there is no hit, no attempt and no candidate. */
 static void only_gaps(void)
 {
-    static const int32_t one[1] = {5};
-    uint32_t set[5], automaton[32], hits[2];
+    static const int32_t two[2] = {5, 5};
+    uint32_t set[6], automaton[48], hits[2];
     int32_t *text = malloc(LONGEST * sizeof *text);
 
     for (size_t i = 0; i < LONGEST; i++)
         text[i] = GAP;
-    finder_empty_set(set, 5);
-    FinderCounts c = finder_add_pattern(set, 5, text, 1);
+    finder_empty_set(set, 6);
+    FinderCounts c = finder_add_pattern(set, 6, text, 1);
     check(c.refusal == 13 && c.first == 0 && c.second == 0 && set[0] == 0, "a pattern that is a gap is 13");
-    finder_add_pattern(set, 5, one, 1);
-    finder_build_automaton(set, 5, automaton, 32);
+    c = finder_add_pattern(set, 6, two, 1);
+    check(c.refusal == 15 && c.first == 0 && c.second == 0 && set[0] == 0, "a pattern of one value is 15");
+    finder_add_pattern(set, 6, two, 2);
+    finder_build_automaton(set, 6, automaton, 48);
     fill(hits, 2);
-    FinderStreamed s = finder_stream_search(set, 5, automaton, 32, finder_new_search(), text, LONGEST, hits, 2);
+    FinderStreamed s = finder_stream_search(set, 6, automaton, 48, finder_new_search(), text, LONGEST, hits, 2);
     check(s.refusal == 0 && s.ended == 1 && s.taken == LONGEST && s.hits == 0 && s.attempts == 0 && held(hits, 0, 2) == 2,
           "1,048,576 gaps are taken, without hits and attempts");
     FinderState cleared = finder_new_search();
     cleared.taken = LONGEST;
     check(same_state(&s.state, &cleared), "the state is a new one, with the values taken");
-    check(refuses(set, 5, automaton, 32, s.state, text, 1, hits, 2, 9), "and one gap more is 9");
-    c = finder_filter_search(set, 5, text, LONGEST, hits, 0);
+    check(refuses(set, 6, automaton, 48, s.state, text, 1, hits, 2, 9), "and one gap more is 9");
+    c = finder_filter_search(set, 6, text, LONGEST, hits, 0);
     check(c.refusal == 0 && c.first == 0 && c.second == 0, "a filter search has no hit and no candidate");
-    check(finds_first(set, 5, automaton, 32, text, LONGEST, hits, 0), "and there is no first hit");
+    check(finds_first(set, 6, automaton, 48, text, LONGEST, hits, 0), "and there is no first hit");
     free(text);
 }
 

@@ -2,12 +2,13 @@
 
 Shapes: a line each, a name, a colon and the values. Recording: values with spaces or newlines between. Values are decimal and
 within the signed 32-bit range. The lowest, -2147483648, is a gap: the recorder had no sample there. A recording may hold gaps,
-a shape holds none. A file that is none of these ends the script with a message that names the line.
+a shape holds none. A shape has at least two values: one alone would hit at every sample. A file that is none of these ends the
+script with a message that names the line.
 """
 import re
 import sys
 
-LONGEST_SHAPE = 256
+SHORTEST_SHAPE, LONGEST_SHAPE = 2, 256
 MOST_SHAPES = 64
 LONGEST_RECORDING = 1048576
 NUMBER = re.compile(r"-?[0-9]{1,20}")
@@ -60,8 +61,8 @@ def read_shapes(name):
         if title in (known for known, _ in shapes):
             refuse(name, line, "a second shape named '%s'" % title)
         values = values_of(name, line, numbers)
-        if not 1 <= len(values) <= LONGEST_SHAPE:
-            refuse(name, line, "a shape has 1 to %d values, this one has %d" % (LONGEST_SHAPE, len(values)))
+        if not SHORTEST_SHAPE <= len(values) <= LONGEST_SHAPE:
+            refuse(name, line, "a shape has %d to %d values, this one has %d" % (SHORTEST_SHAPE, LONGEST_SHAPE, len(values)))
         if GAP in values:
             refuse(name, line, "a shape holds no gap (%d)" % GAP)
         shapes.append((title, values))

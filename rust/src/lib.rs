@@ -75,6 +75,8 @@ pub enum Refusal {
     HoldsGap = 13,
     /// No pattern of the set has the number.
     NoSuchPattern = 14,
+    /// A pattern of one value is added, or the set that is to be searched holds one.
+    OneValue = 15,
 }
 
 impl Refusal {
@@ -82,7 +84,7 @@ impl Refusal {
         use Refusal::*;
         let all = [
             Empty, TooLong, CodeTooLong, NotRealizable, BrokenSet, SetFull, OtherAutomaton, BrokenState, TextTooLong,
-            ArrayTooShort, ListTooLong, CatalogueTooLong, HoldsGap, NoSuchPattern,
+            ArrayTooShort, ListTooLong, CatalogueTooLong, HoldsGap, NoSuchPattern, OneValue,
         ];
         match number {
             0 => Ok(()),
@@ -204,7 +206,7 @@ pub fn next_list(distances: &[u32]) -> Result<Option<Vec<u32>>, Refusal> {
     Ok(if answer.last == 1 { None } else { Some(out) })
 }
 
-/// A set of up to 64 patterns with up to 4,096 values in all.
+/// A set of up to 64 patterns with up to 4,096 values in all. It may be searched if it holds a pattern, and none of one value.
 #[derive(Clone, Debug, PartialEq, Eq)]
 pub struct Set {
     words: Vec<u32>,
@@ -222,7 +224,25 @@ impl Set {
         Set { words: vec![0; 3] }
     }
 
-    /// Adds a pattern, given as values; it gets the next number.
+    /// The set with whose words an array begins, as [`Set::words`] gave them. A stored set may hold patterns of one value, of which
+    /// none can be added; it is searched once they are withdrawn.
+    ///
+    /// ```
+    /// use finder::{Hit, Refusal, Set};
+    /// let mut set = Set::from_words(&[2, 3, 0, 1, 3, 0, 0, 1])?;
+    /// assert_eq!(set.search(&[4, 5]), Err(Refusal::OneValue));
+    /// set.withdraw(0)?;
+    /// assert_eq!(set.search(&[4, 5])?.hits, [Hit { last: 1, pattern: 0 }]);
+    /// assert_eq!(Set::from_words(&[1, 2, 0, 2, 0]), Err(Refusal::BrokenSet));
+    /// # Ok::<(), Refusal>(())
+    /// ```
+    pub fn from_words(words: &[u32]) -> Result<Set, Refusal> {
+        let size = raw::check_set(words);
+        Refusal::check(size.refusal)?;
+        Ok(Set { words: words[..3 + size.first + size.second].to_vec() })
+    }
+
+    /// Adds a pattern, given as two values or more; it gets the next number.
     pub fn add(&mut self, values: &[i32]) -> Result<(), Refusal> {
         let used = self.words.len();
         self.words.resize(used + 1 + values.len(), 0);

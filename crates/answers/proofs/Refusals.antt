@@ -22,6 +22,7 @@ refusals =
     ∷ some Refusal.CatalogueTooLong
     ∷ some Refusal.HoldsGap
     ∷ some Refusal.NoSuchPattern
+    ∷ some Refusal.OneValue
     ∷ []
 
 back : (r : Refusal) → getD refusals (number r) none ≡ some r
@@ -40,6 +41,7 @@ back Refusal.ListTooLong = refl
 back Refusal.CatalogueTooLong = refl
 back Refusal.HoldsGap = refl
 back Refusal.NoSuchPattern = refl
+back Refusal.OneValue = refl
 
 pub number-injective : (r s : Refusal) → number r ≡ number s → r ≡ s
 number-injective r s e = Option·some-injective r s (sym (back r) ∙ ap (λ (n : ℕ). getD refusals n none) e ∙ back s)

@@ -20,6 +20,7 @@ number Refusal.ListTooLong = 11
 number Refusal.CatalogueTooLong = 12
 number Refusal.HoldsGap = 13
 number Refusal.NoSuchPattern = 14
+number Refusal.OneValue = 15
 
 -- refusal and number of words
 abbrev pub toldWritten : Written → ℕ × ℕ

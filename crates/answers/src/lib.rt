@@ -3,7 +3,7 @@
 ghost use Rattle.lists.specs.Prelude.{_≡_};
 ghost use Rattle.answers.specs.Told.{number, newSearch};
 
-// The reasons for a refusal; documents 01 and 02 number them 1 to 14 in this order.
+// The reasons for a refusal; documents 01 and 02 number them 1 to 15 in this order.
 pub enum Refusal {
     Empty,
     TooLong,
@@ -19,6 +19,7 @@ pub enum Refusal {
     CatalogueTooLong,
     HoldsGap,
     NoSuchPattern,
+    OneValue,
 }
 
 // The number of words or values at the front of the lent array that hold the result.
@@ -149,5 +150,6 @@ pub fn refusal_number(r: Refusal) -> u32
         Refusal::CatalogueTooLong => 12,
         Refusal::HoldsGap => 13,
         Refusal::NoSuchPattern => 14,
+        Refusal::OneValue => 15,
     }
 }

@@ -1,13 +1,16 @@
 -- THE ENTRIES, for each way through them: the refusals of the builder, what it tells and leaves,
 -- and the tests of the check.
-use Rattle.lists.proofs.Prelude.{_≡_, _∙_, ap, sym, refl, ap₂, Bool, false, not, List, [], _∷_, _++_, flatten, ℕ, suc, _+_, _*_, _≤_, _<_, ltb, length, getD}
+use Rattle.lists.proofs.Prelude.{_≡_, _∙_, ap, sym, refl, ap₂, false, List, [], _∷_, _++_, flatten, ℕ, _+_, _*_, _≤_, _<_, ltb, length, getD}
 use Rattle.lists.proofs.Prelude.{take, drop, length-take, take-take, arith, lt-ltb, le-ltb, begins, same}
 use Rattle.lists.proofs.Parts.{getD-front}
 use Rattle.lists.proofs.Same.{same-false, false-same}
-use Rattle.pattern_set.specs.PatternSet.{PatternSet, patternsOf, isSet, IsSet}
-use Rattle.entries.specs.Entries.{firstMet, told, after, isUnsearchable, buildEntry}
-use Rattle.entries.proofs.Refusals.{toldBy, leftBy, met, unmet}
-use Rattle.entries.proofs.Searchable.{broken-searchable, empty-unsearchable, filled-searchable, is-broken, not-broken}
+use Rattle.pattern_set.specs.PatternSet.{PatternSet, patternsOf, IsSet}
+use Rattle.answers.specs.declared.Refusal.{Refusal}
+use Rattle.answers.specs.Told.{number}
+use Rattle.answers.proofs.Refusals.{number-positive}
+use Rattle.entries.specs.Entries.{Conditions, firstMet, told, after, setConditions, buildEntry}
+use Rattle.entries.proofs.Refusals.{met-before, refused, accepted}
+use Rattle.entries.proofs.Searchable.{set-accepted}
 use Rattle.automaton_model.specs.Automaton.{nodes, automatonWords}
 use Rattle.automaton_model.proofs.Lengths.{length-automaton}
 use Rattle.automaton_lookup.specs.Made.{Made}
@@ -16,48 +19,30 @@ use Rattle.automaton_lookup.proofs.Words.{made-count, words-made}
 -- ---- build_automaton
 
 module _ (ws out : List ℕ) where
-  abbrev refusal : ℕ
-  refusal = firstMet (buildEntry ws out .conditions)
+  -- the words that the array must have
+  abbrev room : ℕ
+  room = 16 * (1 + length (flatten (patternsOf ws)))
 
-  -- the call is refused by the number r
-  abbrev Refuses : ℕ → Type 0
-  Refuses r = (_≡_ {A = ℕ × (ℕ × ℕ)} (r, (0, 0)) (told (0, 0) (buildEntry ws out))) × (out ≡ after (buildEntry ws out) out)
+  abbrev short : Conditions
+  short = (10, ltb (length out) room) ∷ []
 
-  refused : (r : ℕ) → refusal ≡ suc r → Refuses (suc r)
-  refused r e =
-      let ps = patternsOf ws in (
-        ap (λ (a : ℕ). toldBy a (length (nodes ps)) (length (automatonWords ps))) (sym e),
-        ap (λ (a : ℕ). leftBy a (automatonWords ps) out) (sym e),
-      )
+  -- the call tells so, and leaves so in the array
+  abbrev Answers : ℕ × (ℕ × ℕ) → List ℕ → Type 0
+  Answers t vs = (t ≡ told (0, 0) (buildEntry ws out)) × (vs ≡ after (buildEntry ws out) out)
 
-  abbrev short : List (ℕ × Bool)
-  short = (10, ltb (length out) (16 * (1 + length (flatten (patternsOf ws))))) ∷ []
+  -- a set that may not be searched
+  pub build-refused : (r : Refusal) → firstMet (setConditions ws) ≡ number r → Answers (number r, (0, 0)) out
+  build-refused r e = refused (0, 0) (buildEntry ws out) r out (met-before (setConditions ws) short (number r) (number-positive r) e)
 
-  pub build-broken : isSet ws ≡ false → Refuses 5
-  build-broken e =
-      refused 4 (unmet 1 (isUnsearchable ws) ((5, not (isSet ws)) ∷ short) (broken-searchable ws e) ∙ met 5 (not (isSet ws)) short (is-broken ws e))
+  module _ (s : firstMet (setConditions ws) ≡ 0) where
+    pub build-short : length out < room → Answers (10, (0, 0)) out
+    build-short h = refused (0, 0) (buildEntry ws out) Refusal.ArrayTooShort out (set-accepted ws short s ∙ rw (lt-ltb (length out) room h) refl)
 
-  pub build-empty : IsSet ws → length (patternsOf ws) ≡ 0 → Refuses 1
-  build-empty g z = refused 0 (met 1 (isUnsearchable ws) ((5, not (isSet ws)) ∷ short) (empty-unsearchable ws g z))
-
-  module _ (good : IsSet ws) (some : length (patternsOf ws) ≡ 0 → ⊥) where
-    only-short : refusal ≡ firstMet short
-    only-short =
-        unmet 1 (isUnsearchable ws) ((5, not (isSet ws)) ∷ short) (filled-searchable ws good some) ∙ unmet 5 (not (isSet ws)) short (not-broken ws good)
-
-    pub build-short : length out < 16 * (1 + length (flatten (patternsOf ws))) → Refuses 10
-    build-short h = refused 9 (only-short ∙ rw (lt-ltb (length out) (16 * (1 + length (flatten (patternsOf ws)))) h) refl)
-
-    pub build-done : 16 * (1 + length (flatten (patternsOf ws))) ≤ length out → (n w : ℕ) (vs : List ℕ) → n ≡ length (nodes (patternsOf ws))
-        → w ≡ length (automatonWords (patternsOf ws))
-        → vs ≡ automatonWords (patternsOf ws) ++ drop (length (automatonWords (patternsOf ws))) out
-        → (_≡_ {A = ℕ × (ℕ × ℕ)} (0, (n, w)) (told (0, 0) (buildEntry ws out))) × (vs ≡ after (buildEntry ws out) out)
+    pub build-done : room ≤ length out → (n w : ℕ) (vs : List ℕ) → n ≡ length (nodes (patternsOf ws)) → w ≡ length (automatonWords (patternsOf ws))
+        → vs ≡ automatonWords (patternsOf ws) ++ drop (length (automatonWords (patternsOf ws))) out → Answers (0, (n, w)) vs
     build-done h n w vs p q e =
-        let ps = patternsOf ws in
-        let c : refusal ≡ 0 = only-short ∙ rw (le-ltb (length out) (16 * (1 + length (flatten (patternsOf ws)))) h) refl in (
-          ap₂ (λ (a b : ℕ). (0, (a, b))) p q ∙ ap (λ (a : ℕ). toldBy a (length (nodes ps)) (length (automatonWords ps))) (sym c),
-          e ∙ ap (λ (a : ℕ). leftBy a (automatonWords ps) out) (sym c),
-        )
+        accepted (0, 0) (buildEntry ws out) (n, w) out vs (set-accepted ws short s ∙ rw (le-ltb (length out) room h) refl)
+        (ap₂ (λ (a b : ℕ). (a, b)) p q) e
 
 -- ---- is_automaton
 

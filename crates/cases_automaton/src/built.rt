@@ -93,11 +93,15 @@ pub(crate) fn compare(set: &[u32]) -> Compared {
     }
 }
 
-// The empty set is refused under 1, and what is no set under 5, before the array is looked at.
+// The empty set is refused under 1, what is no set under 5, and a set that holds a pattern of one
+// value under 15, before the array is looked at.
 pub(crate) fn refusals() -> Difference {
     let a = expect_refused(&[0, 0, 0], 1, 0);
     let b = expect_refused(&[0, 0, 0, 4], 1, 100);
     let c = expect_refused(&[0, 0, 7], 5, 0);
     let d = expect_refused(&[1, 2, 0, 2, 0, 2], 5, 100);
-    difference::first(difference::first(a, b), difference::first(c, d))
+    let e = expect_refused(&[1, 1, 0, 1, 0], 15, 0);
+    let f = expect_refused(&[2, 3, 0, 2, 3, 0, 1, 0], 15, 100);
+    let others = difference::first(difference::first(a, b), difference::first(c, d));
+    difference::first(others, difference::first(e, f))
 }

@@ -8,7 +8,7 @@ mod sets;
 use test_differences::difference::Difference;
 use test_tally::Tally;
 
-// Random sets of up to 6 patterns of up to 12 values.
+// Random sets of up to 6 patterns of 2 to 12 values.
 fn random_cases(group: &[u8], n: usize) -> Tally {
     let mut t = test_tally::none();
     let mut i: usize = 0;
@@ -53,8 +53,8 @@ fn full_cases(group: &[u8]) -> Tally {
 fn equal_cases(group: &[u8]) -> Tally {
     let a = test_tally::named(
         test_tally::none(),
-        b"64 equal patterns of 1 value",
-        sets::equal_case(1),
+        b"64 equal patterns of 2 values",
+        sets::equal_case(2),
     );
     let b = test_tally::named(a, b"64 equal patterns of 4 values", sets::equal_case(4));
     let c = test_tally::named(b, b"64 equal patterns of 64 values", sets::equal_case(64));

@@ -163,13 +163,13 @@ fn random_in(number: usize, set: &mut [u32]) -> Difference {
         &[3, 1, 4, 1, 5, 9, 2, 6, 5, 3, 5, 8, 9, 7, 9, 3, 2, 3, 8, 4],
         kind,
         k,
-        11,
+        10,
         s,
     );
     expect_changes(set, number < 60)
 }
 
-// Up to 6 patterns of up to 12 values.
+// Up to 6 patterns of 2 to 12 values.
 pub(crate) fn random_case(number: usize) -> Difference {
     let mut set = [0u32; 320];
     random_in(number, &mut set)

@@ -8,7 +8,7 @@ use test_inputs::texts;
 
 // ---- scattered gaps
 
-// A text of up to 80 values, of which one of 2 to 31 is a gap, and 1 to 6 patterns of up to 20
+// A text of up to 80 values, of which one of 2 to 31 is a gap, and 1 to 6 patterns of 2 to 20
 // values, in arrays that are lent.
 fn scattered_in(number: usize, set: &mut [u32], text: &mut [i32]) -> Difference {
     let s = texts::next(texts::next(number));
@@ -16,7 +16,7 @@ fn scattered_in(number: usize, set: &mut [u32], text: &mut [i32]) -> Difference 
     let kind = texts::pick(number, 7);
     let t = texts::fill(text, n, kind, s);
     let u = texts::scatter_gaps(text, n, texts::pick(t, 29) + 2, t);
-    let most = texts::pick(u, 1) * 12 + 7;
+    let most = texts::pick(u, 1) * 12 + 6;
     test_sets::make(set, text, kind, texts::pick(u, 5) + 1, most, u);
     made::expect_plain_over(set, text, n)
 }
@@ -84,7 +84,7 @@ fn apart_in(number: usize, set: &mut [u32], text: &mut [i32]) -> Difference {
 }
 
 // A text of 330 values with one, two or three gaps in a row at every distance that the number
-// gives, and three patterns of it, as it was before the gaps, the shortest of 1, 16, 17, 18, 255 or
+// gives, and three patterns of it, as it was before the gaps, the shortest of 2, 16, 17, 18, 255 or
 // 256 values. The array of 2,048 words takes all three patterns at all 330 places.
 pub(crate) fn apart_case(number: usize) -> Difference {
     let mut set = [0u32; 1024];
@@ -118,7 +118,7 @@ fn about_in(number: usize, set: &mut [u32], text: &mut [i32]) -> Difference {
     run::expect_plain(set, text)
 }
 
-// A text of 600 values of many levels, a pattern of 1, 16, 17, 18, 255 or 256 values that end
+// A text of 600 values of many levels, a pattern of 2, 16, 17, 18, 255 or 256 values that end
 // before a place behind the seventh block, and one gap before that place.
 pub(crate) fn about_case(number: usize) -> Difference {
     let mut set = [0u32; 320];

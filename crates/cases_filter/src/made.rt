@@ -10,7 +10,7 @@ pub(crate) fn expect_plain_over(set: &[u32], text: &[i32], n: usize) -> Differen
     run::expect_plain(set, &text[..m])
 }
 
-// A text of up to 80 values and 1 to 6 patterns of up to most + 1 values, in arrays that are lent.
+// A text of up to 80 values and 1 to 6 patterns of 2 to most + 2 values, in arrays that are lent.
 fn random_in(number: usize, most: usize, set: &mut [u32], text: &mut [i32]) -> Difference {
     let s = texts::next(texts::next(number));
     let n = texts::pick(s, 80);
@@ -51,11 +51,11 @@ pub(crate) fn length_case(number: usize, m: usize) -> Difference {
     length_in(number, m, &mut set, &mut text)
 }
 
-// A text of 150 values and 64 patterns of up to 64 values, in arrays that are lent.
+// A text of 150 values and 64 patterns of 2 to 64 values, in arrays that are lent.
 fn large_in(number: usize, set: &mut [u32], text: &mut [i32]) -> Difference {
     let kind = texts::pick(number, 3) + 2;
     let s = texts::fill(text, 150, kind, number);
-    test_sets::make(set, text, kind, 64, 63, s);
+    test_sets::make(set, text, kind, 64, 62, s);
     expect_plain_over(set, text, 150)
 }
 

@@ -11,7 +11,7 @@ mod worked;
 
 use test_tally::Tally;
 
-// Cases with patterns of up to most + 1 values.
+// Cases with patterns of 2 to most + 2 values.
 fn random_cases(group: &[u8], n: usize, most: usize) -> Tally {
     let mut t = test_tally::none();
     let mut i: usize = 0;
@@ -90,7 +90,7 @@ fn all_gaps() -> Tally {
 }
 
 fn all_shortest() -> Tally {
-    let a = shortest_patterns(b"shortest of 1 value: ", 300, 1);
+    let a = shortest_patterns(b"shortest of 2 values: ", 300, 2);
     let b = shortest_patterns(b"shortest of 16 values: ", 300, 16);
     let c = shortest_patterns(b"shortest of 17 values: ", 300, 17);
     let d = shortest_patterns(b"shortest of 18 values: ", 300, 18);
@@ -99,10 +99,10 @@ fn all_shortest() -> Tally {
 
 fn main() {
     let a = worked::all_cases(b"worked: ");
-    let b = random_cases(b"patterns of 1 to 8 values: ", 10000, 7);
-    let c = random_cases(b"patterns of 1 to 40 values: ", 2000, 39);
+    let b = random_cases(b"patterns of 2 to 8 values: ", 10000, 6);
+    let c = random_cases(b"patterns of 2 to 40 values: ", 2000, 38);
     let d = all_shortest();
-    test_tally::report(b"shortest of 1, 16, 17 and 18 values: ", d);
+    test_tally::report(b"shortest of 2, 16, 17 and 18 values: ", d);
     let e = large_sets(b"sets of 64 patterns: ", 50);
     let f = all_gaps();
     test_tally::report(

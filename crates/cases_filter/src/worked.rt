@@ -72,7 +72,7 @@ fn flat_cases(group: &[u8]) -> Tally {
     let mut t = test_tally::none();
     let mut n: usize = 0;
     while n < 41 {
-        let first = flat_case(n, 5, 1);
+        let first = flat_case(n, 5, 2);
         let second = flat_case(n, 30, 21);
         t = test_tally::numbered(t, group, n, difference::first(first, second));
         n += 1;
@@ -87,13 +87,17 @@ fn refused_set(set: &[u32], number: u64) -> Difference {
     difference::first(a, b)
 }
 
-// The empty set is refused under 1, and what is no set under 5.
+// The empty set is refused under 1, what is no set under 5, and a set that holds a pattern of one
+// value under 15.
 fn refusals() -> Difference {
     let a = refused_set(&[0, 0, 0, 8], 1);
     let b = refused_set(&[0, 1, 0], 5);
     let c = refused_set(&[1, 2, 0, 2, 0], 5);
     let d = refused_set(&[4294967295, 4294967295, 0], 5);
-    difference::first(difference::first(a, b), difference::first(c, d))
+    let e = refused_set(&[1, 1, 0, 1, 0], 15);
+    let f = refused_set(&[2, 3, 0, 2, 3, 0, 1, 0], 15);
+    let others = difference::first(difference::first(a, b), difference::first(c, d));
+    difference::first(others, difference::first(e, f))
 }
 
 pub(crate) fn all_cases(group: &[u8]) -> Tally {

@@ -80,14 +80,14 @@ fn make_windows(set: &mut [u32], text: &[i32], m: usize, seed: usize) {
 fn apart_in(number: usize, set: &mut [u32], text: &mut [i32]) -> Difference {
     let n = text.len();
     let s = texts::fill(text, n, texts::pick(number / 96, 5), number);
-    let m = arrays::smaller(texts::pattern_length(number / 16), 255) + 1;
-    make_windows(set, text, m, s);
+    make_windows(set, text, texts::pattern_length(number / 16), s);
     texts::put_gaps(text, n, texts::pick(s, 256), texts::gap_distance(number), 1);
     run::expect_all(set, text, n, s)
 }
 
 // A text of 600 values with gaps at every distance that the number gives, and three patterns of it,
-// as it was before the gaps, of 2, 17, 18, 19 or 256 values and more.
+// as it was before the gaps: two of 2, 16, 17, 18, 255 or 256 values, and one of a value more, of
+// 256 at most.
 pub(crate) fn apart_case(number: usize) -> Difference {
     let mut set = [0u32; 1024];
     let mut text = [0i32; 600];

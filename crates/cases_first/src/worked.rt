@@ -56,11 +56,14 @@ fn expect_refused(set: &[u32], automaton: &[u32], number: u64) -> Difference {
     )
 }
 
-// The empty set is refused under 1 and what is no set under 5, whatever the automaton.
+// The empty set is refused under 1, what is no set under 5, and a set that holds a pattern of one
+// value under 15, whatever the automaton.
 fn refused_sets() -> Difference {
     let a = expect_refused(&[0, 0, 0, 8], &[], 1);
     let b = expect_refused(&[0, 1, 0], &[1, 2, 3], 5);
-    difference::first(a, b)
+    let c = expect_refused(&[1, 1, 0, 1, 0], &[], 15);
+    let d = expect_refused(&[2, 3, 0, 2, 3, 0, 1, 0], &[1, 2, 3], 15);
+    difference::first(difference::first(a, b), difference::first(c, d))
 }
 
 // An automaton of five nodes without its last word.

@@ -1,6 +1,7 @@
-// A search that takes all 1,048,576 values that a search takes, by calls over one array, over the
-// set of the pattern of one value; then no value more, which ends, and one value more, which is
-// refused under 9.
+// A search that takes all 1,048,576 values that a search takes, by calls over one array of equal
+// values, over the set of the pattern of two equal values; then no value more, which ends, and one
+// value more, which is refused under 9.
+ghost use Rattle.lists.specs.Prelude.{_≤_};
 use answers::Counts;
 use answers::SearchState;
 use answers::Streamed;
@@ -16,10 +17,11 @@ struct Reached {
     difference: Difference,
 }
 
-// The hits are expected to be those at 4,096 places from one on.
-fn expect_places(hits: &[u32], from: usize) -> Difference {
+// The hits are expected to be those at so many places, 4,096 at most, from one on.
+fn expect_places(hits: &[u32], from: usize, count: usize) -> Difference {
+    let n = arrays::smaller(count, 4096);
     let mut i: usize = 0;
-    while i < 4096 {
+    while i < n {
         let place = std::num::wrapping_add_usize(from, i);
         let d = difference::expect_at(
             Part::Word,
@@ -35,9 +37,17 @@ fn expect_places(hits: &[u32], from: usize) -> Difference {
     difference::none()
 }
 
-// A value is looked for at its node and at the root, the first of all at the root only.
+// The values of a call at whose places no hit ends: the first of all.
+fn without_hit(taken: usize) -> usize
+    ensures { λ r. ⌜ r ≤ 1 ⌝ }
+{
+    if taken == 0 { 1 } else { 0 }
+}
+
+// Two attempts for each of 4,096 values, from the node of two values and from that of one; one for
+// each of the first two of all.
 fn attempts_from(taken: usize) -> usize {
-    if taken == 0 { 8191 } else { 8192 }
+    if taken == 0 { 8190 } else { 8192 }
 }
 
 // A call with 4,096 values.
@@ -49,18 +59,20 @@ fn full_call(
     hits: &mut [u32],
 ) -> Reached {
     let from = arrays::wide(s.taken);
+    let without = without_hit(from);
     let r = finder::stream_search(set, automaton, s, text, hits);
     let state = r.state;
     let answer = r.answer;
     let counts = Counts {
         taken: 4096,
-        hits: 4096,
+        hits: 4096 - without,
         attempts: attempts_from(from),
     };
     let ended = expect::streamed(answer, true, counts);
+    let places = expect_places(hits, from + without, 4096 - without);
     Reached {
         state,
-        difference: difference::first(ended, expect_places(hits, from)),
+        difference: difference::first(ended, places),
     }
 }
 
@@ -140,9 +152,9 @@ fn limit_in(set: &[u32], text: &[i32], automaton: &mut [u32], hits: &mut [u32]) 
 }
 
 fn limit_over(text: &[i32]) -> Difference {
-    let mut automaton = [0u32; 32];
+    let mut automaton = [0u32; 48];
     let mut hits = [0u32; 2];
-    limit_in(&[1, 1, 0, 1, 0], text, &mut automaton, &mut hits)
+    limit_in(&[1, 2, 0, 2, 0, 1], text, &mut automaton, &mut hits)
 }
 
 fn main() {

@@ -18,12 +18,12 @@ fn scattered_in(
     let n = texts::pick(s, 120);
     let t = texts::fill(text, n, kind, s);
     let u = texts::scatter_gaps(text, n, texts::pick(t, 9) + 2, t);
-    let v = test_sets::make(set, text, kind, texts::pick(u, 4) + 1, 9, u);
+    let v = test_sets::make(set, text, kind, texts::pick(u, 4) + 1, 8, u);
     finder::build_automaton(set, automaton);
     runs::expect_run(set, automaton, text, n, texts::pick(v, 6), v)
 }
 
-// A text of up to 120 values, of which one of 2 to 11 is a gap, and up to 5 patterns of up to 10.
+// A text of up to 120 values, of which one of 2 to 11 is a gap, and up to 5 patterns of 2 to 10.
 pub(crate) fn scattered_case(number: usize) -> Difference {
     let mut set = [0u32; 80];
     let mut automaton = [0u32; 850];
@@ -75,12 +75,12 @@ fn add_window(set: &mut [u32], text: &[i32], from: usize, n: usize) {
     test_sets::add(set, &text[a..], n);
 }
 
-// The set of the windows of 1, 16, 17, 255 and 256 values behind two places.
+// The set of the windows of 2, 16, 17, 255 and 256 values behind two places.
 fn make_set(set: &mut [u32], text: &[i32], first: usize, second: usize) {
     finder::empty_set(set);
     add_window(set, text, first, 255);
     add_window(set, text, second, 17);
-    add_window(set, text, first, 1);
+    add_window(set, text, first, 2);
     add_window(set, text, first, 16);
     add_window(set, text, second, 256);
 }
@@ -108,10 +108,10 @@ fn apart_in(number: usize, set: &mut [u32], automaton: &mut [u32], text: &mut [i
 }
 
 // A text of 560 values with one, two or three gaps in a row at every distance that the number
-// gives, and patterns of 1, 16, 17, 255 and 256 values of it, as they were before the gaps.
+// gives, and patterns of 2, 16, 17, 255 and 256 values of it, as they were before the gaps.
 pub(crate) fn apart_case(number: usize) -> Difference {
     let mut set = [0u32; 560];
-    let mut automaton = [0u32; 8740];
+    let mut automaton = [0u32; 8760];
     let mut text = [0i32; 560];
     apart_in(number, &mut set, &mut automaton, &mut text)
 }

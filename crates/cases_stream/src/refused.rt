@@ -54,25 +54,27 @@ fn short_hits(set: &[u32], automaton: &[u32], s: SearchState, text: &[i32]) -> D
     difference::first(a, b)
 }
 
-// The empty set: 1. What is no set: 5. A good set to which the automaton does not belong: 7.
+// The empty set: 1. What is no set: 5. A good set that holds a pattern of one value: 15. One to
+// which the automaton does not belong: 7.
 fn other_sets(automaton: &[u32], s: SearchState, text: &[i32]) -> Difference {
     let a = calls::expect_refused(&[0, 0, 0], automaton, s, text, 256, 1);
     let b = calls::expect_refused(&[1, 1, 0, 1, 1], automaton, s, text, 256, 5);
-    let c = calls::expect_refused(&[2, 3, 0, 1, 3, 0, 0, 0], automaton, s, text, 256, 7);
-    difference::first(a, difference::first(b, c))
+    let c = calls::expect_refused(&[2, 3, 0, 1, 3, 0, 0, 0], automaton, s, text, 256, 15);
+    let d = calls::expect_refused(&[2, 5, 0, 2, 5, 0, 0, 0, 0, 0], automaton, s, text, 256, 7);
+    difference::first(difference::first(a, b), difference::first(c, d))
 }
 
 fn smaller_automaton(s: SearchState, text: &[i32], automaton: &mut [u32]) -> Difference {
-    finder::build_automaton(&[1, 1, 0, 1, 0], automaton);
-    if s.node < 2 {
+    finder::build_automaton(&[1, 2, 0, 2, 0, 1], automaton);
+    if s.node < 3 {
         return difference::none();
     }
-    calls::expect_refused(&[1, 1, 0, 1, 0], automaton, s, text, 256, 8)
+    calls::expect_refused(&[1, 2, 0, 2, 0, 1], automaton, s, text, 256, 8)
 }
 
-// Another good set with its own automaton, of two nodes, which has not got the state's node: 8.
+// Another good set with its own automaton, of three nodes, which has not got the state's node: 8.
 fn other_search(s: SearchState, text: &[i32]) -> Difference {
-    let mut automaton = [0u32; 32];
+    let mut automaton = [0u32; 48];
     smaller_automaton(s, text, &mut automaton)
 }
 

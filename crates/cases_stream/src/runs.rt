@@ -74,12 +74,12 @@ fn random_in(
     let n = texts::pick(s, 120);
     let t = texts::fill(text, n, kind, s);
     let k = texts::pick(t, 4) + 1;
-    let u = test_sets::make(set, text, kind, k, 9, t);
+    let u = test_sets::make(set, text, kind, k, 8, t);
     finder::build_automaton(set, automaton);
     expect_run(set, automaton, text, n, 0, u)
 }
 
-// A text of up to 120 values, and up to 5 patterns of up to 10.
+// A text of up to 120 values, and up to 5 patterns of 2 to 10.
 pub(crate) fn random_case(number: usize) -> Difference {
     let mut set = [0u32; 80];
     let mut automaton = [0u32; 850];

@@ -59,19 +59,19 @@ fn pattern_count(seed: usize) -> usize {
 }
 
 // Fills an array with a text, with some gaps or none, and makes a set of patterns, most of them of
-// windows of the text. They have up to 8 values, or up to fewer, by the seed; where they have one
-// value each, all are equal. Returns the seed to go on with.
+// windows of the text. They have 2 to 8 values, or up to fewer, by the seed; where they have two
+// values each, many are equal. Returns the seed to go on with.
 fn make(number: usize, text: &mut [i32], set: &mut [u32]) -> usize {
     let n = text.len();
     let kind = texts::pick(texts::next(number), 7);
     let s = texts::fill(text, n, kind, number);
     let t = texts::scatter_gaps(text, n, texts::pick(s, 60) + 2, s);
-    test_sets::make(set, text, kind, pattern_count(t), texts::pick(s, 7), t)
+    test_sets::make(set, text, kind, pattern_count(t), texts::pick(s, 6), t)
 }
 
 // ---- cases
 
-// A text of 60 values and up to 64 patterns of up to 8 values, one of which is withdrawn. Four
+// A text of 60 values and up to 64 patterns of 2 to 8 values, one of which is withdrawn. Four
 // numbers give the same text and set.
 pub(crate) fn case(number: usize) -> Difference {
     let mut set = [0u32; 600];

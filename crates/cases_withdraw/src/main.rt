@@ -2,7 +2,8 @@
 // search, then a pattern is withdrawn, and both searches over the smaller set are held against the
 // old list without the hits of that pattern, with the numbers that the others have then. Second,
 // sequences of steps in one array, some that add a pattern and some that withdraw one: after each
-// step every word of the array is held against a model. All cases are made from seeds.
+// step every word of the array is held against a model. Half of the sequences begin with a stored
+// set that holds patterns of one value. All cases are made from seeds.
 mod hit_lists;
 mod list_cases;
 mod model;

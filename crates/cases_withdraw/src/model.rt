@@ -80,19 +80,27 @@ fn put_row(model: &mut [u32], j: usize, values: &[i32]) {
 
 // ---- steps
 
-// Adds a pattern, given as 1 to 256 values; returns the number of the refusal, 6 where the set is
-// full, or 0.
-pub(crate) fn add(model: &mut [u32], values: &[i32]) -> u64 {
+// Puts a pattern, given as 1 to 256 values, behind the others.
+pub(crate) fn store(model: &mut [u32], values: &[i32]) {
     let k = pattern_count(model);
-    if k == 64 {
+    put_row(model, k, values);
+    arrays::put(model, 0, k + 1);
+    write_set(model);
+}
+
+// Adds a pattern, given as 1 to 256 values; returns the number of the refusal, 6 where the set is
+// full, 15 where there is one value, or 0.
+pub(crate) fn add(model: &mut [u32], values: &[i32]) -> u64 {
+    if pattern_count(model) == 64 {
         return 6;
     }
     if arrays::smaller(values.len(), 256) + arrays::number(model, 1) > 4096 {
         return 6;
     }
-    put_row(model, k, values);
-    arrays::put(model, 0, k + 1);
-    write_set(model);
+    if values.len() == 1 {
+        return 15;
+    }
+    store(model, values);
     0
 }
 

@@ -65,10 +65,11 @@ fn pattern_seed(seed: usize) -> usize {
     texts::next(seed)
 }
 
-// The length of a pattern to add: in a sequence always the same, or up to 8, 64 or 256.
+// The length of a pattern to add: in a sequence always the same, or up to 8, 64 or 256. A pattern
+// of one value is refused.
 fn pattern_length(number: usize, seed: usize) -> usize {
     match number % 8 {
-        0 => 1,
+        0 => 2,
         1 => 5,
         2 => 64,
         3 => 100,
@@ -111,16 +112,38 @@ fn take_step(
     )
 }
 
-// 300 steps from the empty set on, in an array that has words behind the largest set; the number of
-// the first one gives them.
+// Stores a pattern of one value, which no entry adds, and one of two values behind it.
+fn store_two(words: &mut [u32]) {
+    model::store(words, &[7]);
+    model::store(words, &[7, 5]);
+}
+
+// The set that a sequence begins with, in both arrays: so many patterns of one value, and one of
+// two values behind each.
+fn begin(set: &mut [u32], words: &mut [u32], stored: usize) {
+    let mut i: usize = 0;
+    finder::empty_set(words);
+    while i < stored {
+        store_two(words);
+        i += 1;
+    }
+    arrays::copy(words, set);
+}
+
+// How many patterns of one value a sequence begins with: the first eight with the empty set.
+fn stored_patterns(number: usize) -> usize {
+    if number < 8 { 0 } else { 20 }
+}
+
+// 300 steps from a set on, in an array that has words behind the largest set; the number of the
+// first one gives them.
 pub(crate) fn sequence(t: Tally, group: &[u8], first: usize) -> Tally {
     let mut set = [arrays::BEFORE; 4200];
     let mut words = [arrays::BEFORE; 20648];
     let mut tally = t;
     let mut s = texts::next(first);
     let mut i: usize = 0;
-    finder::empty_set(&mut set);
-    finder::empty_set(&mut words);
+    begin(&mut set, &mut words, stored_patterns(first / 300));
     while i < 300 {
         s = texts::next(s);
         let d = take_step(&mut set, &mut words, first / 300, i, s);

@@ -162,14 +162,22 @@ fn gap_before_fingerprint() -> Difference {
     )
 }
 
-// A gap is no hit of a pattern of one value; the lowest sample is one.
-fn gaps_and_one_value() -> Difference {
+// A gap is in no window; the lowest sample is.
+fn gaps_and_lowest() -> Difference {
     finds(
-        &[5],
-        &[],
-        &[-2147483648, 3, -2147483648, -2147483648, -2147483647],
-        &[1, 0, 4, 0],
-        2,
+        &[5, 5],
+        &[5, 4],
+        &[
+            -2147483648,
+            3,
+            -2147483647,
+            -2147483648,
+            -2147483648,
+            -2147483647,
+            -2147483647,
+        ],
+        &[2, 1, 6, 0],
+        4,
         2,
     )
 }
@@ -191,7 +199,7 @@ fn gaps(t: Tally) -> Tally {
     let a = test_tally::named(t, b"a gap between", gap_between());
     let b = test_tally::named(a, b"a gap is no minimum", gap_no_minimum());
     let c = test_tally::named(b, b"a gap before a fingerprint", gap_before_fingerprint());
-    test_tally::named(c, b"gaps and a pattern of one value", gaps_and_one_value())
+    test_tally::named(c, b"gaps and the lowest sample", gaps_and_lowest())
 }
 
 // A hit array of 6 words for 3 patterns is full behind the first hit, and takes no value more.

@@ -1,4 +1,5 @@
-// The set of three patterns: 20 words, and 11 nodes.
+// The set of three patterns: 20 words, and 11 nodes. A pattern of one value is added to no set, and
+// a stored set that holds one has no automaton.
 use test_differences::difference;
 use test_differences::difference::Difference;
 use test_differences::expect;
@@ -51,12 +52,34 @@ fn expect_nodes(set: &[u32]) -> Difference {
     )
 }
 
+// A pattern of one value is refused under 15, and the set is as it was.
+fn expect_one_refused(set: &mut [u32]) -> Difference {
+    let a = expect::set_size(finder::add_pattern(set, &[5]), 15, 0, 0);
+    difference::first(a, expect_set(set))
+}
+
+// A stored set that holds a pattern of one value is good, and its automaton is refused under 15.
+fn expect_stored(set: &[u32]) -> Difference {
+    let mut automaton = [0u32; 64];
+    let size = expect::set_size(finder::check_set(set), 0, 2, 3);
+    difference::first(
+        size,
+        expect::built(finder::build_automaton(set, &mut automaton), 15, 0, 0),
+    )
+}
+
 pub(crate) fn all_cases(group: &[u8]) -> Tally {
     let mut set = [0u32; 24];
     let a = three_in(&mut set);
     let b = difference::first(a, expect_set(&set));
     let t = test_tally::named(test_tally::none(), b"set of three patterns", b);
     let u = test_tally::named(t, b"automaton of three patterns", expect_nodes(&set));
-    test_tally::report(group, u);
-    u
+    let v = test_tally::named(u, b"a pattern of one value", expect_one_refused(&mut set));
+    let w = test_tally::named(
+        v,
+        b"a stored pattern of one value",
+        expect_stored(&[2, 3, 0, 2, 3, 0, 1, 0]),
+    );
+    test_tally::report(group, w);
+    w
 }

@@ -1,14 +1,15 @@
 -- What is known of an accepted add and of an accepted withdrawal: what the array held, and that it
 -- holds the new set afterwards.
-use Rattle.lists.proofs.Prelude.{_≡_, _∙_, sym, refl, Bool, true, false, not, _||_, true≢false, List, [], _∷_, _++_, append-assoc, flatten, ℕ, _+_, _-_, _≤_}
+use Rattle.lists.proofs.Prelude.{_≡_, _∙_, sym, refl, not, _||_, List, [], _∷_, _++_, append-assoc, flatten, ℕ, _+_, _-_, _≤_}
 use Rattle.lists.proofs.Prelude.{_<_, ℤ, T, eqb, leb, ltb, length, drop, replicate, arith, lt-leb, not-false, leb-false, ltb-false, eqb-false, begins}
+use Rattle.lists.proofs.Tests.{none-left, none-right}
 use Rattle.lists.proofs.Same.{begins-iff}
 use Rattle.gaps.specs.Gaps.{holdsGap}
 use Rattle.cartesian.specs.Cartesian.{distances}
 use Rattle.cartesian.proofs.Seek.{length-distances}
 use Rattle.realization.specs.Realization.{Realizable}
 use Rattle.realization.proofs.Realizable.{realizable-iff}
-use Rattle.pattern_set.specs.PatternSet.{PatternSet, setWords, goodPattern, goodSet, isSet, IsSet, patternsOf, without}
+use Rattle.pattern_set.specs.PatternSet.{PatternSet, setWords, goodPattern, goodSet, hasOneValue, isSet, IsSet, patternsOf, without}
 use Rattle.pattern_set.proofs.IsSet.{set-good, begins-set}
 use Rattle.pattern_set.proofs.Good.{goodPattern-is, good-more}
 use Rattle.pattern_set.proofs.Without.{good-without}
@@ -48,7 +49,7 @@ module _ (ws : List ℕ) (xs : List ℤ) (e : firstMet (addEntry ws xs .conditio
   pub add-given : Addable ws xs
   add-given =
       let a : Conditions = (10, ltb (length ws) (4 + length ps + n)) ∷ [] in
-      let b : Conditions = (6, leb 64 (length ps) || ltb 4096 n) ∷ a in
+      let b : Conditions = (6, leb 64 (length ps) || ltb 4096 n) ∷ (15, hasOneValue xs) ∷ a in
       let c : Conditions = (5, not (isSet ws)) ∷ b in
       let d : Conditions = (13, holdsGap xs) ∷ c in
       let f : Conditions = (2, ltb 256 (length xs)) ∷ d in
@@ -56,18 +57,14 @@ module _ (ws : List ℕ) (xs : List ℤ) (e : firstMet (addEntry ws xs .conditio
       let r2 = first-unmet 1 (ltb 256 (length xs)) d (r1 .1) in
       let r13 = first-unmet 12 (holdsGap xs) c (r2 .1) in
       let r5 = first-unmet 4 (not (isSet ws)) b (r13 .1) in
-      let r6 = neither (leb 64 (length ps)) (ltb 4096 n) (first-unmet 5 (leb 64 (length ps) || ltb 4096 n) a (r5 .1) .0) in
+      let r6 = first-unmet 5 (leb 64 (length ps) || ltb 4096 n) ((15, hasOneValue xs) ∷ a) (r5 .1) .0 in
       record {
         set = not-false (isSet ws) (r5 .0);
         some = omega (arith, eqb-false (length xs) 0 (r1 .0));
         short = ltb-false 256 (length xs) (r2 .0);
-        few = leb-false 64 (length ps) (r6 .0);
-        within = ltb-false 4096 n (r6 .1);
+        few = leb-false 64 (length ps) (none-left (leb 64 (length ps)) (ltb 4096 n) r6);
+        within = ltb-false 4096 n (none-right (leb 64 (length ps)) (ltb 4096 n) r6);
       }
-    where
-      neither : (a b : Bool) → (a || b) ≡ false → (a ≡ false) × (b ≡ false)
-      neither true b q = absurd (true≢false q)
-      neither false b q = (refl, q)
 
   -- the values' distances are a good pattern
   good-added : T (goodPattern (distances xs))

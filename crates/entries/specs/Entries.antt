@@ -6,7 +6,7 @@ use Rattle.cartesian.specs.Cartesian.{distances}
 use Rattle.realization.specs.Realization.{realizable}
 use Rattle.catalogue.specs.Catalogue.{nextList}
 use Rattle.ranking.specs.Rank.{rank, unrank, isRank}
-use Rattle.pattern_set.specs.PatternSet.{setWords, isSet, patternsOf, without}
+use Rattle.pattern_set.specs.PatternSet.{setWords, hasOneValue, holdsOneValue, isSet, patternsOf, without}
 use Rattle.matching.specs.Matching.{hits, hitWords, candidates}
 use Rattle.automaton_model.specs.Automaton.{nodes, automatonWords}
 use Rattle.answers.specs.declared.SearchState.{SearchState}
@@ -94,10 +94,6 @@ decodeEntry n code out =
 
 -- ---- The entries on sets of patterns.
 
--- it is a set array, and may not be searched: it holds no pattern
-abbrev pub isUnsearchable : List ℕ → Bool
-isUnsearchable ws = isSet ws && eqb (length (patternsOf ws)) 0
-
 -- the empty set
 abbrev pub emptySetEntry : List ℕ → Entry ℕ ℕ
 emptySetEntry out = record { conditions = (10, ltb (length out) 3) ∷ []; counts = 3; result = setWords [] }
@@ -112,7 +108,7 @@ addEntry ws xs =
     let ps = patternsOf ws in
     let n = length (flatten ps) + length xs in
     let cs : Conditions = (1, eqb (length xs) 0) ∷ (2, ltb 256 (length xs)) ∷ (13, holdsGap xs) ∷ (5, not (isSet ws))
-    ∷ (6, leb 64 (length ps) || ltb 4096 n) ∷ (10, ltb (length ws) (4 + length ps + n)) ∷ [] in
+    ∷ (6, leb 64 (length ps) || ltb 4096 n) ∷ (15, hasOneValue xs) ∷ (10, ltb (length ws) (4 + length ps + n)) ∷ [] in
     record { conditions = cs; counts = (length ps + 1, n); result = setWords (ps ++ (distances xs ∷ [])) }
 
 -- withdrawing pattern j: higher numbers move down by one, and the words that the set no longer uses
@@ -127,17 +123,22 @@ withdrawEntry ws j =
 
 -- ---- Building the automaton, the stream search, the first hit and the filter search.
 
+-- the conditions of an entry over a set that is to be searched, with which its others begin: the
+-- set in the array ws is empty, it is no set, or it holds a pattern of one value. None is met
+-- exactly if the set may be searched (law `searched-iff`). Document 02, 2.6
+abbrev pub setConditions : List ℕ → Conditions
+setConditions ws = (1, isSet ws && eqb (length (patternsOf ws)) 0) ∷ (5, not (isSet ws)) ∷ (15, holdsOneValue (patternsOf ws)) ∷ []
+
 -- building the automaton of the set in the array ws: nodes and words
 abbrev pub buildEntry : List ℕ → List ℕ → Entry (ℕ × ℕ) ℕ
 buildEntry ws out =
     let ps = patternsOf ws in
-    let cs : Conditions = (1, isUnsearchable ws) ∷ (5, not (isSet ws)) ∷ (10, ltb (length out) (16 * (1 + length (flatten ps)))) ∷ [] in
+    let cs : Conditions = setConditions ws ++ ((10, ltb (length out) (16 * (1 + length (flatten ps)))) ∷ []) in
     record { conditions = cs; counts = (length (nodes ps), length (automatonWords ps)); result = automatonWords ps }
 
 -- the conditions of a search over the set in the array ws and the array of its automaton
 abbrev pub searchConditions : List ℕ → List ℕ → Conditions
-searchConditions ws automaton =
-    (1, isUnsearchable ws) ∷ (5, not (isSet ws)) ∷ (7, not (begins automaton (automatonWords (patternsOf ws)))) ∷ []
+searchConditions ws automaton = setConditions ws ++ ((7, not (begins automaton (automatonWords (patternsOf ws)))) ∷ [])
 
 -- ---- a call of the stream search: set, automaton, state, values and hit array
 
@@ -180,5 +181,5 @@ abbrev pub filterEntry : List ℕ → List ℤ → List ℕ → Entry (ℕ × �
 filterEntry ws text out =
     let ps = patternsOf ws in
     let hs = hits ps text in
-    let cs : Conditions = (1, isUnsearchable ws) ∷ (5, not (isSet ws)) ∷ (9, ltb 1048576 (length text)) ∷ (11, ltb (length out) (2 * length hs)) ∷ [] in
+    let cs : Conditions = setConditions ws ++ ((9, ltb 1048576 (length text)) ∷ (11, ltb (length out) (2 * length hs)) ∷ []) in
     record { conditions = cs; counts = (length hs, candidates ps text); result = hitWords hs }

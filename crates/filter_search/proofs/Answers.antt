@@ -1,12 +1,15 @@
 -- THE ANSWER of a filter search, for each way through the entry: the first refusal that is met, and
 -- else the counts and the list.
-use Rattle.lists.proofs.Prelude.{_≡_, _∙_, ap, sym, refl, ap₂, Bool, true, false, not, List, _∷_, ℕ, suc, _*_, _≤_, _<_, ℤ, T, leb, ltb, length, sets, arith}
+use Rattle.lists.proofs.Prelude.{_≡_, _∙_, ap, sym, refl, ap₂, true, false, List, _∷_, ℕ, _*_, _≤_, _<_, ℤ, T, leb, ltb, length, sets, arith}
 use Rattle.lists.proofs.Prelude.{le-leb, lt-ltb, le-ltb, leb-true, leb-false}
-use Rattle.pattern_set.specs.PatternSet.{PatternSet, goodSet, patternsOf, isSet, IsSet}
+use Rattle.answers.specs.declared.Refusal.{Refusal}
+use Rattle.answers.specs.Told.{number}
+use Rattle.answers.proofs.Refusals.{number-positive}
+use Rattle.pattern_set.specs.PatternSet.{PatternSet, goodSet, patternsOf}
 use Rattle.matching.specs.Matching.{hits, hitWords, candidates}
-use Rattle.entries.specs.Entries.{firstMet, told, after, isUnsearchable, filterEntry}
-use Rattle.entries.proofs.Refusals.{met, unmet, toldBy, leftBy}
-use Rattle.entries.proofs.Searchable.{broken-searchable, empty-unsearchable, filled-searchable, is-broken, not-broken}
+use Rattle.entries.specs.Entries.{Conditions, Entry, firstMet, told, after, setConditions, filterEntry}
+use Rattle.entries.proofs.Refusals.{met, unmet, met-before, toldBy, leftBy, refused}
+use Rattle.entries.proofs.Searchable.{set-accepted}
 use Rattle.filter_plan.proofs.Candidates.{hits-candidates}
 use Rattle.filter_passes.proofs.Lists.{front-words}
 use Rattle.filter_search.specs.Search.{foundEntry}
@@ -38,41 +41,32 @@ module _ (ps : PatternSet) (text : List ℤ) (out : List ℕ) where
 -- ---- the ways through the entry
 
 module _ (ws : List ℕ) (text : List ℤ) (out : List ℕ) where
-  abbrev refusal : ℕ
-  refusal = firstMet (filterEntry ws text out .conditions)
+  abbrev entry : Entry (ℕ × ℕ) ℕ
+  entry = filterEntry ws text out
 
-  told-by : (r : ℕ) → refusal ≡ suc r → (_≡_ {A = ℕ × (ℕ × ℕ)} (suc r, (0, 0)) (told (0, 0) (filterEntry ws text out))) ×
-      (out ≡ after (filterEntry ws text out) out)
-  told-by r e = (
-    sym (ap (λ (n : ℕ). toldBy n (length (hits (patternsOf ws) text)) (candidates (patternsOf ws) text)) e),
-    sym (ap (λ (n : ℕ). leftBy n (hitWords (hits (patternsOf ws) text)) out) e),
-  )
+  abbrev found : Entry (ℕ × ℕ) ℕ
+  found = foundEntry (patternsOf ws) text out
 
-  abbrev nine : List (ℕ × Bool)
-  nine = (9, ltb 1048576 (length text)) ∷ foundEntry (patternsOf ws) text out .conditions
+  abbrev fromNine : Conditions
+  fromNine = (9, ltb 1048576 (length text)) ∷ found .conditions
 
-  pub entry-broken : isSet ws ≡ false → (_≡_ {A = ℕ × (ℕ × ℕ)} (5, (0, 0)) (told (0, 0) (filterEntry ws text out))) ×
-      (out ≡ after (filterEntry ws text out) out)
-  entry-broken e = told-by 4 (unmet 1 (isUnsearchable ws) ((5, not (isSet ws)) ∷ nine) (broken-searchable ws e) ∙ met 5 (not (isSet ws)) nine (is-broken ws e))
+  -- a set that may not be searched
+  pub entry-refused : (r : Refusal) → firstMet (setConditions ws) ≡ number r
+      → (_≡_ {A = ℕ × (ℕ × ℕ)} (number r, (0, 0)) (told (0, 0) entry)) × (out ≡ after entry out)
+  entry-refused r e = refused (0, 0) entry r out (met-before (setConditions ws) fromNine (number r) (number-positive r) e)
 
-  pub entry-empty : IsSet ws → length (patternsOf ws) ≡ 0
-      → (_≡_ {A = ℕ × (ℕ × ℕ)} (1, (0, 0)) (told (0, 0) (filterEntry ws text out))) × (out ≡ after (filterEntry ws text out) out)
-  entry-empty g z = told-by 0 (met 1 (isUnsearchable ws) ((5, not (isSet ws)) ∷ nine) (empty-unsearchable ws g z))
-
-  module _ (good : IsSet ws) (some : length (patternsOf ws) ≡ 0 → ⊥) where
-    from-nine : refusal ≡ firstMet nine
-    from-nine = unmet 1 (isUnsearchable ws) ((5, not (isSet ws)) ∷ nine) (filled-searchable ws good some) ∙ unmet 5 (not (isSet ws)) nine (not-broken ws good)
-
-    pub entry-long : 1048576 < length text
-        → (_≡_ {A = ℕ × (ℕ × ℕ)} (9, (0, 0)) (told (0, 0) (filterEntry ws text out))) × (out ≡ after (filterEntry ws text out) out)
-    entry-long h = told-by 8 (from-nine ∙ rw (lt-ltb 1048576 (length text) h) refl)
+  module _ (s : firstMet (setConditions ws) ≡ 0) where
+    pub entry-long : 1048576 < length text → (_≡_ {A = ℕ × (ℕ × ℕ)} (9, (0, 0)) (told (0, 0) entry)) × (out ≡ after entry out)
+    entry-long h =
+        refused (0, 0) entry Refusal.TextTooLong out
+        (set-accepted ws fromNine s ∙ met 9 (ltb 1048576 (length text)) (found .conditions) (lt-ltb 1048576 (length text) h))
 
     -- the answer is that of the search
-    from-found : length text ≤ 1048576 → refusal ≡ firstMet (foundEntry (patternsOf ws) text out .conditions)
-    from-found h = from-nine ∙ unmet 9 (ltb 1048576 (length text)) (foundEntry (patternsOf ws) text out .conditions) (le-ltb 1048576 (length text) h)
+    from-found : length text ≤ 1048576 → firstMet (found .conditions) ≡ firstMet (entry .conditions)
+    from-found h = sym (set-accepted ws fromNine s ∙ unmet 9 (ltb 1048576 (length text)) (found .conditions) (le-ltb 1048576 (length text) h))
 
-    pub entry-told : length text ≤ 1048576 → told (0, 0) (foundEntry (patternsOf ws) text out) ≡ told (0, 0) (filterEntry ws text out)
-    entry-told h = sym (ap (λ (n : ℕ). toldBy n (length (hits (patternsOf ws) text)) (candidates (patternsOf ws) text)) (from-found h))
+    pub entry-told : length text ≤ 1048576 → told (0, 0) found ≡ told (0, 0) entry
+    entry-told h = ap (λ (n : ℕ). toldBy n (length (hits (patternsOf ws) text)) (candidates (patternsOf ws) text)) (from-found h)
 
-    pub entry-after : length text ≤ 1048576 → after (foundEntry (patternsOf ws) text out) out ≡ after (filterEntry ws text out) out
-    entry-after h = sym (ap (λ (n : ℕ). leftBy n (hitWords (hits (patternsOf ws) text)) out) (from-found h))
+    pub entry-after : length text ≤ 1048576 → after found out ≡ after entry out
+    entry-after h = ap (λ (n : ℕ). leftBy n (hitWords (hits (patternsOf ws) text)) out) (from-found h)

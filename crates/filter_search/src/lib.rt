@@ -1,7 +1,7 @@
 // The filter search. Document 01: A tail search.
-ghost use Rattle.lists.specs.Prelude.{_≡_, _*_, _≤_, leb, length};
+ghost use Rattle.lists.specs.Prelude.{_≡_, _*_, _≤_, T, leb, length};
 ghost use Rattle.answers.specs.Told.{toldFiltered};
-ghost use Rattle.pattern_set.specs.PatternSet.{patternsOf, IsSet};
+ghost use Rattle.pattern_set.specs.PatternSet.{patternsOf, IsSet, maySearch};
 ghost use Rattle.matching.specs.Matching.{hits, candidates};
 ghost use Rattle.entries.specs.Entries.{told, after, filterEntry};
 ghost use Rattle.filter_windows.specs.Looks.{HitTables};
@@ -190,20 +190,26 @@ fn search(set: &[u32], text: &[i32], out: &mut [u32]) -> Filtered
     search_by(set, text, &ownlow, &ownhigh, &fits, &numbers, &parents, out)
 }
 
-// Lists the hits of the text, longer pattern first at a place, then ownlow number; tells how many
-// they are and how many candidates were looked at.
-pub fn filter_search(set: &[u32], text: &[i32], hits: &mut [u32]) -> Filtered
+// The search over a set that may be searched, or the refusal of a text that is too long.
+fn search_text(set: &[u32], text: &[i32], hits: &mut [u32]) -> Filtered
+    requires { ⌜ IsSet (now set) × T (maySearch (patternsOf (now set))) ⌝ }
     ensures { λ r. ⌜ toldFiltered r ≡ told (0, 0) (filterEntry (now (set .entry)) (now (text .entry)) (now (hits .entry))) ⌝ }
     ensures { λ _. ⌜ now (hits .exit) ≡ after (filterEntry (now (set .entry)) (now (text .entry)) (now (hits .entry))) (now (hits .entry)) ⌝ }
 {
-    let SetSize::Holds(k, _) = set_arrays::check_set(set) else {
-        return Filtered::Refused(Refusal::BrokenSet);
-    };
-    if k == 0 {
-        return Filtered::Refused(Refusal::Empty);
-    }
     if text.len() > 1048576 {
         return Filtered::Refused(Refusal::TextTooLong);
     }
     search(set, text, hits)
+}
+
+// Lists the hits of the text, longer pattern first at a place, then lower number; tells how many
+// they are and how many candidates were looked at. Refuses 1 5 15 9 11.
+pub fn filter_search(set: &[u32], text: &[i32], hits: &mut [u32]) -> Filtered
+    ensures { λ r. ⌜ toldFiltered r ≡ told (0, 0) (filterEntry (now (set .entry)) (now (text .entry)) (now (hits .entry))) ⌝ }
+    ensures { λ _. ⌜ now (hits .exit) ≡ after (filterEntry (now (set .entry)) (now (text .entry)) (now (hits .entry))) (now (hits .entry)) ⌝ }
+{
+    match searchable_set::check_searchable(set) {
+        SetSize::Holds(_, _) => search_text(set, text, hits),
+        SetSize::Refused(r) => Filtered::Refused(r),
+    }
 }

@@ -93,8 +93,8 @@ pub fn check_set(words: &[u32]) -> SetSize
     set_arrays::check_set(words)
 }
 
-// Adds a pattern, given as values, as the last one, in place; tells the size of the larger set.
-// Refuses 1 2 13 5 6 10.
+// Adds a pattern, given as two values or more, as the last one, in place; tells the size of the
+// larger set. Refuses 1 2 13 5 6 15 10.
 pub fn add_pattern(words: &mut [u32], values: &[i32]) -> SetSize
     ensures { λ r. ⌜ toldSize r ≡ told (0, 0) (addEntry (now (words .entry)) (now (values .entry))) ⌝ }
     ensures { λ _. ⌜ now (words .exit) ≡ after (addEntry (now (words .entry)) (now (values .entry))) (now (words .entry)) ⌝ }
@@ -111,9 +111,9 @@ pub fn withdraw_pattern(words: &mut [u32], j: usize) -> SetSize
     withdraw_pattern::withdraw_pattern(words, j)
 }
 
-// ---- automaton and searches
+// ---- automaton and searches, over a set that holds a pattern, and none of one value
 
-// Writes the automaton of a set that holds a pattern. Refuses 1 5 10.
+// Writes the automaton of a set. Refuses 1 5 15 10.
 pub fn build_automaton(set: &[u32], out: &mut [u32]) -> Built
     ensures { λ r. ⌜ toldBuilt r ≡ told (0, 0) (buildEntry (now (set .entry)) (now (out .entry))) ⌝ }
     ensures { λ _. ⌜ now (out .exit) ≡ after (buildEntry (now (set .entry)) (now (out .entry))) (now (out .entry)) ⌝ }
@@ -123,7 +123,7 @@ pub fn build_automaton(set: &[u32], out: &mut [u32]) -> Built
 
 // Searches on from a state, at first `SearchState::new()`: takes values until they end or the hit
 // array may be too short for the hits of one more, writes the hits that end at them, and hands the
-// state back. Refuses 1 5 7 8 9 10.
+// state back. Refuses 1 5 15 7 8 9 10.
 pub fn stream_search(
     set: &[u32],
     automaton: &[u32],
@@ -142,7 +142,7 @@ pub fn stream_search(
 
 // Tells the first hit of a whole text, by last place, longer pattern first, then lower number, and
 // how many values were read: up to and with its last place, or all where there is none. Refuses 1 5
-// 7 9.
+// 15 7 9.
 pub fn first_hit(set: &[u32], automaton: &[u32], text: &[i32]) -> FirstHit
     ensures { λ r. ⌜ toldFirst r ≡ told (0, 0, 0, 0) (firstEntry (now (set .entry)) (now (automaton .entry)) (now (text .entry))) ⌝ }
 {
@@ -150,7 +150,7 @@ pub fn first_hit(set: &[u32], automaton: &[u32], text: &[i32]) -> FirstHit
 }
 
 // Lists the hits of a whole text: by last place, longer pattern first, then lower number; tells
-// hits and candidates. Refuses 1 5 9 11.
+// hits and candidates. Refuses 1 5 15 9 11.
 pub fn filter_search(set: &[u32], text: &[i32], hits: &mut [u32]) -> Filtered
     ensures { λ r. ⌜ toldFiltered r ≡ told (0, 0) (filterEntry (now (set .entry)) (now (text .entry)) (now (hits .entry))) ⌝ }
     ensures { λ _. ⌜ now (hits .exit) ≡ after (filterEntry (now (set .entry)) (now (text .entry)) (now (hits .entry))) (now (hits .entry)) ⌝ }

@@ -1,4 +1,5 @@
-// The first hit of a whole text, without reading on after it. Document 02, 2.5; refusals 1 5 7 9.
+// The first hit of a whole text, without reading on after it. Document 02, 2.5 and 2.6; refusals
+// 1 5 15 7 9.
 ghost use Rattle.lists.specs.Prelude.{_≡_, _≤_, length};
 ghost use Rattle.answers.specs.Told.{toldFirst};
 ghost use Rattle.pattern_set.specs.PatternSet.{patternsOf};

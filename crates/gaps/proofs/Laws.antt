@@ -1,9 +1,8 @@
 -- Laws of gaps: what holds none, holds none in its parts, and a sample put behind it keeps it so.
-use Rattle.lists.proofs.Prelude.{_≡_, _∙_, ap, sym, refl, subst, Bool, true, false, _||_, List, [], _∷_, _++_, map, ℕ, suc, _+_, _-_, _≤_, _<_, ℤ, pos}
-use Rattle.lists.proofs.Prelude.{negsuc, mag, w32, ofZ, T, eqb, eqb→eq, eq-eqb, ne-eqb, length, getD, take, drop, take-append-drop, drop-drop, take-suc}
-use Rattle.lists.proofs.Prelude.{take-all, add-one, arith, any, lastOf}
-use Rattle.lists.proofs.Tests.{T-true, true-T, test-ext, or-false}
-use Rattle.lists.proofs.Members.{any-append, mem-any, getD-mem}
+use Rattle.lists.proofs.Prelude.{_≡_, _∙_, ap, sym, refl, Bool, true, false, _||_, List, [], _∷_, _++_, map, ℕ, suc, _+_, _-_, _≤_, _<_, ℤ, pos}
+use Rattle.lists.proofs.Prelude.{negsuc, mag, w32, ofZ, eqb, eqb→eq, eq-eqb, ne-eqb, length, drop, drop-drop, arith, any, lastOf}
+use Rattle.lists.proofs.Tests.{T-true, test-ext}
+use Rattle.lists.proofs.Members.{none-front, none-drop, any-snoc, none-snoc}
 use Rattle.gaps.specs.Gaps.{isGap, holdsGap}
 
 -- ---- parts
@@ -12,24 +11,12 @@ pub empty-none : holdsGap [] ≡ false
 unfolding any
 empty-none = refl
 
-none-left : (a b : Bool) → a || b ≡ false → a ≡ false
-none-left true b e = e
-none-left false b e = refl
-
-none-right : (a b : Bool) → a || b ≡ false → b ≡ false
-none-right true b e = absurd (subst T e tt)
-none-right false b e = e
-
 -- what stands before something
 pub front-none : (xs ys : List ℤ) → holdsGap (xs ++ ys) ≡ false → holdsGap xs ≡ false
-front-none xs ys e = none-left (holdsGap xs) (holdsGap ys) (sym (any-append isGap xs ys) ∙ e)
-
--- what stands behind something
-pub back-none : (xs ys : List ℤ) → holdsGap (xs ++ ys) ≡ false → holdsGap ys ≡ false
-back-none xs ys e = none-right (holdsGap xs) (holdsGap ys) (sym (any-append isGap xs ys) ∙ e)
+front-none = none-front isGap
 
 pub drop-none : (n : ℕ) (xs : List ℤ) → holdsGap xs ≡ false → holdsGap (drop n xs) ≡ false
-drop-none n xs e = back-none (take n xs) (drop n xs) (ap holdsGap (take-append-drop n xs) ∙ e)
+drop-none = none-drop isGap
 
 -- from a later place on
 pub later-none : (a b : ℕ) (xs : List ℤ) → a ≤ b → holdsGap (drop a xs) ≡ false → holdsGap (drop b xs) ≡ false
@@ -44,12 +31,11 @@ lastOf-none m n xs h e = later-none (length xs - n) (length xs - m) xs (omega ar
 -- ---- one value more
 
 pub holdsGap-snoc : (xs : List ℤ) (x : ℤ) → holdsGap (xs ++ (x ∷ [])) ≡ holdsGap xs || isGap x
-unfolding any
-holdsGap-snoc xs x = any-append isGap xs (x ∷ []) ∙ ap (λ (b : Bool). holdsGap xs || b) (or-false (isGap x))
+holdsGap-snoc = any-snoc isGap
 
 -- a sample keeps it so
 pub snoc-none : (xs : List ℤ) (x : ℤ) → holdsGap xs ≡ false → isGap x ≡ false → holdsGap (xs ++ (x ∷ [])) ≡ false
-snoc-none xs x e f = holdsGap-snoc xs x ∙ (rw (e, f) refl)
+snoc-none = none-snoc isGap
 
 -- a gap behind anything
 pub snoc-gap : (xs : List ℤ) (x : ℤ) → isGap x ≡ true → holdsGap (xs ++ (x ∷ [])) ≡ true
@@ -76,19 +62,3 @@ gap-bits (negsuc n) h =
     test-ext (eqb (4294967296 - suc n) 2147483648) (eqb n 2147483647)
     (λ t. let q = eqb→eq (4294967296 - suc n) 2147483648 t in T-true (eqb n 2147483647) (eq-eqb n 2147483647 (omega arith)))
     (λ t. let q = eqb→eq n 2147483647 t in T-true (eqb (4294967296 - suc n) 2147483648) (eq-eqb (4294967296 - suc n) 2147483648 (omega arith)))
-
--- ---- the values looked through so far, from the first on
-
-pub scan-start : (xs : List ℤ) → holdsGap (take 0 xs) ≡ false
-unfolding any
-scan-start xs = refl
-
-pub scan-more : (xs : List ℤ) (i : ℕ) → holdsGap (take i xs) ≡ false → i < length xs → isGap (getD xs i (pos 0)) ≡ false → holdsGap (take (i + 1) xs) ≡ false
-scan-more xs i e h f =
-    ap (λ (n : ℕ). holdsGap (take n xs)) (add-one i) ∙ ap holdsGap (take-suc xs i (pos 0) h) ∙ snoc-none (take i xs) (getD xs i (pos 0)) e f
-
-pub scan-gap : (xs : List ℤ) (i : ℕ) → i < length xs → isGap (getD xs i (pos 0)) ≡ true → holdsGap xs ≡ true
-scan-gap xs i h e = true-T (holdsGap xs) (mem-any isGap xs (getD xs i (pos 0)) (getD-mem xs i (pos 0) h) (T-true (isGap (getD xs i (pos 0))) e))
-
-pub scan-end : (xs : List ℤ) (i : ℕ) → length xs ≤ i → holdsGap (take i xs) ≡ false → holdsGap xs ≡ false
-scan-end xs i h e = ap holdsGap (sym (take-all i xs h)) ∙ e

@@ -1,20 +1,19 @@
 -- The hits of an accepted call, read off the array that was lent: their words lie at its front, and
 -- their numbers are those of patterns.
-use Rattle.lists.proofs.Prelude.{_≡_, _∙_, ap, sym, refl, subst, ap₂, inl, inr, _⊎_, Bool, true, false, cond, not, List, [], _∷_, _++_, map, List·Memᴰ}
+use Rattle.lists.proofs.Prelude.{_≡_, _∙_, ap, sym, refl, subst, ap₂, inl, inr, _⊎_, Bool, true, false, cond, List, [], _∷_, _++_, map, List·Memᴰ}
 use Rattle.lists.proofs.Prelude.{append-assoc, List·Memᴰ·not-nil, List·Memᴰ·append-cases, flatten, ℕ, zero, suc, min, _+_, _-_, _*_, _/_, _≤_, _<_, ℤ, ltb}
-use Rattle.lists.proofs.Prelude.{length, getD, take, drop, length-append, length-drop, length-take-le, arith, begins, tabulate, same, not-false}
+use Rattle.lists.proofs.Prelude.{length, getD, take, drop, length-append, length-drop, length-take-le, arith, tabulate, same}
 use Rattle.lists.proofs.Select.{mem-select}
 use Rattle.lists.proofs.Members.{mem-below, getD-mem, mem-map}
 use Rattle.answers.specs.declared.SearchState.{SearchState}
-use Rattle.pattern_set.specs.PatternSet.{PatternSet, patternsOf, isSet, IsSet}
+use Rattle.pattern_set.specs.PatternSet.{PatternSet, patternsOf}
 use Rattle.matching.specs.Matching.{hitWords, chain}
 use Rattle.matching.proofs.HitWords.{length-hitWords}
-use Rattle.entries.specs.Entries.{Conditions, firstMet, unless, told, after, isUnsearchable, Counts, streamConditions, streamEntry, streamState}
-use Rattle.automaton_model.specs.Automaton.{headOf, automatonWords, advance, endingAt, listed}
-use Rattle.search_model.specs.Search.{goodState, feed, sampled, step, call, stop, andThen, ringOf}
+use Rattle.entries.specs.Entries.{firstMet, unless, told, after, Counts, streamConditions, streamEntry, streamState}
+use Rattle.automaton_model.specs.Automaton.{headOf, advance, endingAt, listed}
+use Rattle.search_model.specs.Search.{feed, sampled, step, call, stop, andThen, ringOf}
 use Rattle.search_model.proofs.Feed.{step-cases}
 use Rattle.search_model.specs.Ring.{distanceOf}
-use Rattle.entries.proofs.Refusals.{first-unmet}
 use Rattle.hits_output.specs.Output.{hitLines, hitsIn}
 use Rattle.hits_output.proofs.Words.{hit-in-words, hits-in-words}
 use Rattle.hits_calls.specs.declared.calls.Step.{Step}
@@ -71,16 +70,6 @@ module _ (ws au : List ℕ) (st : SearchState) (xs : List ℤ) (lent : List ℕ)
     (w : part ≡ after (streamEntry ws au st xs lent) lent) (same : length part ≡ length lent) where
   found : List (ℕ × ℕ)
   found = streamCall ws st xs lent .hits
-
-  -- the set is good
-  pub accepted-good : IsSet ws
-  unfolding streamConditions
-  accepted-good =
-      let ps = patternsOf ws in
-      let later : Conditions =
-      (7, not (begins au (automatonWords ps))) ∷ (8, not (goodState ps st)) ∷ (9, ltb 1048576 (st .taken + length xs)) ∷
-      (10, ltb (length lent) (2 * length ps)) ∷ [] in
-      not-false (isSet ws) (first-unmet 4 (not (isSet ws)) later (first-unmet 0 (isUnsearchable ws) ((5, not (isSet ws)) ∷ later) e .1) .0)
 
   part-words : part ≡ hitWords found ++ drop (length (hitWords found)) lent
   unfolding found

@@ -1,13 +1,12 @@
 -- One call of the program leaves the next piece: its refusal, or the lines of its hits.
 use Rattle.lists.proofs.Prelude.{_≡_, _∙_, ap, sym, refl, subst, Bool, true, false, not, List, [], _∷_, _++_, ℕ, zero, suc, min, _+_, _-_, _*_, _%_, _^_, _≤_}
 use Rattle.lists.proofs.Prelude.{_<_, ℤ, eqb, ltb, length, length-append, length-replicate, length-take, length-drop, take, take-all, drop, drop-of-length-le}
-use Rattle.lists.proofs.Prelude.{replicate, decLt, arith, inl, inr, begins}
+use Rattle.lists.proofs.Prelude.{replicate, decLt, arith, inl, inr}
 use Rattle.answers.specs.declared.SearchState.{SearchState}
-use Rattle.pattern_set.specs.PatternSet.{isSet, patternsOf}
-use Rattle.automaton_model.specs.Automaton.{automatonWords}
+use Rattle.pattern_set.specs.PatternSet.{patternsOf}
 use Rattle.search_model.specs.Search.{goodState, Called, step, call}
 use Rattle.search_model.proofs.Feed.{EndedOrFull, feed-rule}
-use Rattle.entries.specs.Entries.{firstMet, unless, isUnsearchable, streamConditions}
+use Rattle.entries.specs.Entries.{firstMet, unless, searchConditions, streamConditions}
 use Rattle.hits_output.specs.Output.{hitLines, closingLine, refusedLine}
 use Rattle.hits_calls.specs.declared.calls.Step.{Step}
 use Rattle.hits_calls.specs.Called.{lent, summed, summary, IsCalled}
@@ -36,8 +35,8 @@ same-refusal : (ws automaton : List ℕ) (st : SearchState) (xs : List ℤ) (a b
 unfolding streamConditions
 same-refusal ws automaton st xs a b e =
     let ps = patternsOf ws in
-    ap (λ (n : ℕ). firstMet ((1, isUnsearchable ws) ∷ (5, not (isSet ws)) ∷ (7, not (begins automaton (automatonWords ps))) ∷ (8, not (goodState ps st))
-    ∷ (9, ltb 1048576 (st .taken + length xs)) ∷ (10, ltb n (2 * length ps)) ∷ [])) e
+    ap (λ (n : ℕ). firstMet (searchConditions ws automaton ++ ((8, not (goodState ps st)) ∷ (9, ltb 1048576 (st .taken + length xs))
+    ∷ (10, ltb n (2 * length ps)) ∷ []))) e
 
 -- the values have ended
 pub piece-closing : (ws automaton : List ℕ) (text : List ℤ) (p : Progress) (hits out : List ℕ) {last : List ℕ} (n : ℕ) → p .ended ≡ true

@@ -4,17 +4,18 @@
 -- hold.
 use Rattle.lists.proofs.Prelude.{_≡_, _∙_, ap, sym, refl, subst, Bool, true, false, cond, _||_, List, [], _∷_, _++_, map, append-nil, append-assoc}
 use Rattle.lists.proofs.Prelude.{flatten, ℕ, zero, suc, _+_, _*_, _≤_, _<_, ℤ, T, eqb, leb, ltb, leb-false, ltb-false, length, length-append}
-use Rattle.lists.proofs.Prelude.{length-drop, drop, arith, le-ltb, all, begins}
+use Rattle.lists.proofs.Prelude.{length-drop, drop, arith, le-ltb, any, all, begins}
 use Rattle.lists.proofs.Parts.{length-snoc}
 use Rattle.lists.proofs.Rows.{flatten-snoc}
 use Rattle.lists.proofs.Tests.{true-T, not-zero}
+use Rattle.lists.proofs.Members.{none-snoc}
 use Rattle.lists.proofs.Same.{begins-iff}
 use Rattle.gaps.specs.Gaps.{holdsGap}
 use Rattle.cartesian.specs.Cartesian.{distances}
 use Rattle.cartesian.proofs.Seek.{length-distances}
 use Rattle.realization.specs.Realization.{Realizable}
 use Rattle.realization.proofs.Realizable.{realizable-iff}
-use Rattle.pattern_set.specs.PatternSet.{PatternSet, setWords, goodPattern, goodSet, isSet, patternsOf}
+use Rattle.pattern_set.specs.PatternSet.{PatternSet, setWords, goodPattern, goodSet, hasOneValue, holdsOneValue, isSet, patternsOf}
 use Rattle.pattern_set.proofs.Good.{goodPattern-is, good-more}
 use Rattle.pattern_set.proofs.Words.{length-setWords}
 use Rattle.pattern_set.proofs.IsSet.{isSet-words, patternsOf-words}
@@ -34,9 +35,10 @@ good-values xs n l =
 
 -- ---- one pattern after the other
 
--- the array begins with the words of the patterns, which are a good set
+-- the array begins with the words of the patterns, which are a good set and have two values or more
 record Holds (ws : List ℕ) (ps : PatternSet) : Type 0 where
   good : T (goodSet ps)
+  many : holdsOneValue ps ≡ false
   rest : List ℕ
   words : ws ≡ setWords ps ++ rest
 
@@ -47,29 +49,34 @@ holds-set ws ps h = (ap isSet (h .words) ∙ isSet-words ps (h .rest) (h .good),
 addRefusal : PatternSet → List ℤ → ℕ
 addRefusal ps xs =
     cond (eqb (length xs) 0) 1 (cond (ltb 256 (length xs)) 2 (cond (holdsGap xs) 13
-    (cond (leb 64 (length ps) || ltb 4096 (length (flatten ps) + length xs)) 6 0)))
+    (cond (leb 64 (length ps) || ltb 4096 (length (flatten ps) + length xs)) 6 (cond (hasOneValue xs) 15 0))))
 
--- none: the pattern is good, and there is room for it
+-- none: the pattern is good and has two values or more, and there is room for it
 record Fits (ps : PatternSet) (xs : List ℤ) : Type 0 where
   good : T (goodPattern (distances xs))
+  many : hasOneValue xs ≡ false
   few : length ps < 64
   short : length (flatten ps) + length xs ≤ 4096
 
 fits : (ps : PatternSet) (xs : List ℤ) → addRefusal ps xs ≡ 0 → Fits ps xs
 unfolding addRefusal
 fits ps xs e =
-    go (eqb (length xs) 0) refl (ltb 256 (length xs)) refl (holdsGap xs) (leb 64 (length ps)) refl (ltb 4096 (length (flatten ps) + length xs)) refl e
+    go (eqb (length xs) 0) refl (ltb 256 (length xs)) refl (holdsGap xs) (leb 64 (length ps)) refl (ltb 4096 (length (flatten ps) + length xs)) refl
+    (hasOneValue xs) refl e
   where
     go : (a : Bool) → eqb (length xs) 0 ≡ a → (b : Bool) → ltb 256 (length xs) ≡ b → (o c : Bool) → leb 64 (length ps) ≡ c
-        → (d : Bool) → ltb 4096 (length (flatten ps) + length xs) ≡ d → _≡_ {A = ℕ} (cond a 1 (cond b 2 (cond o 13 (cond (c || d) 6 0)))) 0 → Fits ps xs
-    go true p b q o c r d s f = absurd (let y : ⊥ = omega arith in y)
-    go false p true q o c r d s f = absurd (let y : ⊥ = omega arith in y)
-    go false p false q true c r d s f = absurd (let y : ⊥ = omega arith in y)
-    go false p false q false true r d s f = absurd (let y : ⊥ = omega arith in y)
-    go false p false q false false r true s f = absurd (let y : ⊥ = omega arith in y)
-    go false p false q false false r false s f =
+        → (d : Bool) → ltb 4096 (length (flatten ps) + length xs) ≡ d → (u : Bool) → hasOneValue xs ≡ u
+        → _≡_ {A = ℕ} (cond a 1 (cond b 2 (cond o 13 (cond (c || d) 6 (cond u 15 0))))) 0 → Fits ps xs
+    go true p b q o c r d s u v f = absurd (let y : ⊥ = omega arith in y)
+    go false p true q o c r d s u v f = absurd (let y : ⊥ = omega arith in y)
+    go false p false q true c r d s u v f = absurd (let y : ⊥ = omega arith in y)
+    go false p false q false true r d s u v f = absurd (let y : ⊥ = omega arith in y)
+    go false p false q false false r true s u v f = absurd (let y : ⊥ = omega arith in y)
+    go false p false q false false r false s true v f = absurd (let y : ⊥ = omega arith in y)
+    go false p false q false false r false s false v f =
         record {
           good = good-values xs p (ltb-false 256 (length xs) q);
+          many = v;
           few = leb-false 64 (length ps) r;
           short = ltb-false 4096 (length (flatten ps) + length xs) s;
         }
@@ -81,17 +88,19 @@ module _ (ws : List ℕ) (ps : PatternSet) (xs : List ℤ) (h : Holds ws ps) (l 
   add-refusal =
       let w = holds-set ws ps h in
       rw (w .0, w .1)
-      (go (eqb (length xs) 0) (ltb 256 (length xs)) (holdsGap xs) (leb 64 (length ps)) refl (ltb 4096 (length (flatten ps) + length xs)))
+      (go (eqb (length xs) 0) (ltb 256 (length xs)) (holdsGap xs) (leb 64 (length ps)) refl (ltb 4096 (length (flatten ps) + length xs)) (hasOneValue xs))
     where
-      go : (a b o c : Bool) → leb 64 (length ps) ≡ c → (d : Bool)
-          → firstMet ((1, a) ∷ (2, b) ∷ (13, o) ∷ (5, false) ∷ (6, c || d) ∷ (10, ltb (length ws) (4 + length ps + (length (flatten ps) + length xs))) ∷ [])
-          ≡ cond a 1 (cond b 2 (cond o 13 (cond (c || d) 6 0)))
-      go true b o c r d = refl
-      go false true o c r d = refl
-      go false false true c r d = refl
-      go false false false true r d = refl
-      go false false false false r true = refl
-      go false false false false r false =
+      go : (a b o c : Bool) → leb 64 (length ps) ≡ c → (d u : Bool)
+          → firstMet ((1, a) ∷ (2, b) ∷ (13, o) ∷ (5, false) ∷ (6, c || d) ∷ (15, u)
+          ∷ (10, ltb (length ws) (4 + length ps + (length (flatten ps) + length xs))) ∷ [])
+          ≡ cond a 1 (cond b 2 (cond o 13 (cond (c || d) 6 (cond u 15 0))))
+      go true b o c r d u = refl
+      go false true o c r d u = refl
+      go false false true c r d u = refl
+      go false false false true r d u = refl
+      go false false false false r true u = refl
+      go false false false false r false true = refl
+      go false false false false r false false =
           let f = leb-false 64 (length ps) r in
           rw (le-ltb (length ws) (4 + length ps + (length (flatten ps) + length xs))
           (let y : 4 + length ps + (length (flatten ps) + length xs) ≤ length ws = omega arith in y)) refl
@@ -112,10 +121,13 @@ module _ (ws : List ℕ) (ps : PatternSet) (xs : List ℤ) (h : Holds ws ps) (l 
       let size : length (setWords qs) ≤ length ws = omega (arith, length-setWords qs, length-snoc ps (distances xs), flat, d, f .few) in
       let long : length (setWords qs ++ drop (length (setWords qs)) ws) ≡ length ws =
       omega (arith, length-append (setWords qs) (drop (length (setWords qs)) ws), length-drop (length (setWords qs)) ws, size) in
-      (record { good = g; rest = drop (length (setWords qs)) ws; words = is }, ap length is ∙ long)
+      (record { good = g; many = longer (f .many); rest = drop (length (setWords qs)) ws; words = is }, ap length is ∙ long)
     where
       after-add : PatternSet → List ℕ
       after-add rs = setWords (rs ++ (distances xs ∷ [])) ++ drop (length (setWords (rs ++ (distances xs ∷ [])))) ws
+
+      longer : hasOneValue xs ≡ false → holdsOneValue (ps ++ (distances xs ∷ [])) ≡ false
+      longer e = none-snoc hasOneValue ps (distances xs) (h .many) (ap (λ (n : ℕ). eqb n 1) (length-distances xs) ∙ e)
 
 -- ---- all patterns, and the automaton
 
@@ -132,16 +144,17 @@ refusal-cons : (ps : PatternSet) (xs : List ℤ) (xss : List (List ℤ))
     → refusalOf ps (xs ∷ xss) ≡ unless (addRefusal ps xs) (refusalOf (ps ++ (distances xs ∷ [])) xss) (addRefusal ps xs)
 unfolding refusalOf addRefusal
 refusal-cons ps xs xss =
-    go (eqb (length xs) 0) (ltb 256 (length xs)) (holdsGap xs) (leb 64 (length ps) || ltb 4096 (length (flatten ps) + length xs))
+    go (eqb (length xs) 0) (ltb 256 (length xs)) (holdsGap xs) (leb 64 (length ps) || ltb 4096 (length (flatten ps) + length xs)) (hasOneValue xs)
     (refusalOf (ps ++ (distances xs ∷ [])) xss)
   where
-    go : (a b o c : Bool) (n : ℕ) → cond a 1 (cond b 2 (cond o 13 (cond c 6 n)))
-        ≡ unless (cond a 1 (cond b 2 (cond o 13 (cond c 6 0)))) n (cond a 1 (cond b 2 (cond o 13 (cond c 6 0))))
-    go true b o c n = refl
-    go false true o c n = refl
-    go false false true c n = refl
-    go false false false true n = refl
-    go false false false false n = refl
+    go : (a b o c u : Bool) (n : ℕ) → cond a 1 (cond b 2 (cond o 13 (cond c 6 (cond u 15 n))))
+        ≡ unless (cond a 1 (cond b 2 (cond o 13 (cond c 6 (cond u 15 0))))) n (cond a 1 (cond b 2 (cond o 13 (cond c 6 (cond u 15 0)))))
+    go true b o c u n = refl
+    go false true o c u n = refl
+    go false false true c u n = refl
+    go false false false true u n = refl
+    go false false false false true n = refl
+    go false false false false false n = refl
 
 length-cons : (xs : List ℤ) (xss : List (List ℤ)) → length (flatten (xs ∷ xss)) ≡ length xs + length (flatten xss)
 unfolding flatten
@@ -156,11 +169,12 @@ module _ (automaton : List ℕ) (m : 16384 ≤ length automaton) where
       rw (
         w .0,
         w .1,
+        h .many,
         le-ltb (length automaton) (16 * (1 + length (flatten ps)))
             (let y : 16 * (1 + length (flatten ps)) ≤ length automaton = omega arith in y),
       ) (go (eqb (length ps) 0))
     where
-      go : (b : Bool) → firstMet ((1, b) ∷ (5, false) ∷ (10, false) ∷ []) ≡ cond b 1 0
+      go : (b : Bool) → firstMet ((1, b) ∷ (5, false) ∷ (15, false) ∷ (10, false) ∷ []) ≡ cond b 1 0
       go true = refl
       go false = refl
 
@@ -211,12 +225,12 @@ module _ (automaton : List ℕ) (m : 16384 ≤ length automaton) where
   -- ---- from the empty set
 
   empty-holds : (ws : List ℕ) → 1090 ≤ length ws → Holds (after (emptySetEntry ws) ws) [] × (length (after (emptySetEntry ws) ws) ≡ length ws)
-  unfolding goodSet flatten all
+  unfolding goodSet flatten all any
   empty-holds ws l =
       let words : after (emptySetEntry ws) ws ≡ setWords [] ++ drop (length (setWords [])) ws =
       rw (le-ltb (length ws) 3 (let y : 3 ≤ length ws = omega arith in y)) refl in
       let long = length-append (setWords []) (drop (length (setWords [])) ws) in (
-        record { good = tt; rest = drop (length (setWords [])) ws; words = words },
+        record { good = tt; many = refl; rest = drop (length (setWords [])) ws; words = words },
         ap length words ∙ (omega (arith, long, length-setWords [], length-drop (length (setWords [])) ws)),
       )
 
@@ -234,6 +248,7 @@ module _ (automaton : List ℕ) (m : 16384 ≤ length automaton) where
 pub record Searchable (set automaton : List ℕ) (ps : PatternSet) : Type 0 where
   pub good : T (goodSet ps)
   pub some : 0 < length ps
+  pub many : holdsOneValue ps ≡ false
   pub isSet : isSet set ≡ true
   pub patterns : patternsOf set ≡ ps
   pub words : begins automaton (automatonWords ps) ≡ true
@@ -276,6 +291,7 @@ prepared xss set automaton l m n =
         record {
           good = h .good;
           some = a .some e;
+          many = h .many;
           isSet = w .0;
           patterns = w .1;
           words = true-T (begins (makeBoth xss set automaton .1) (automatonWords (map distances xss)))

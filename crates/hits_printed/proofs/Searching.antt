@@ -52,6 +52,7 @@ module _ (set automaton : List ℕ) (text : List ℤ) (room : ℕ) (ps : Pattern
         s .isSet,
         s .patterns,
         ne-eqb (length ps) 0 (λ q. let w : ⊥ = omega (arith, s .some) in w),
+        s .many,
         s .words,
         true-T (goodState ps st) (represents-good ps (s .good) (s .some) R st r (omega arith)),
         r .count,

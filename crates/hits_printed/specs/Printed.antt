@@ -3,7 +3,7 @@
 use Rattle.lists.specs.Prelude.{cond, _||_, Option, none, some, List, [], _∷_, _++_, map, flatten, ℕ, _+_, eqb, leb, ltb, ℤ, length}
 use Rattle.gaps.specs.Gaps.{holdsGap}
 use Rattle.cartesian.specs.Cartesian.{distances}
-use Rattle.pattern_set.specs.PatternSet.{PatternSet}
+use Rattle.pattern_set.specs.PatternSet.{PatternSet, hasOneValue}
 use Rattle.matching.specs.Matching.{hits}
 use Rattle.runs.specs.ReferenceRun.{attemptsOn}
 use Rattle.hits_input.specs.Input.{Input, readInput}
@@ -16,7 +16,8 @@ unfoldable pub refusalOf : PatternSet → List (List ℤ) → ℕ
 refusalOf ps [] = cond (eqb (length ps) 0) 1 0
 refusalOf ps (xs ∷ xss) =
     cond (eqb (length xs) 0) 1 (cond (ltb 256 (length xs)) 2 (cond (holdsGap xs) 13
-    (cond (leb 64 (length ps) || ltb 4096 (length (flatten ps) + length xs)) 6 (refusalOf (ps ++ (distances xs ∷ [])) xss))))
+    (cond (leb 64 (length ps) || ltb 4096 (length (flatten ps) + length xs)) 6
+    (cond (hasOneValue xs) 15 (refusalOf (ps ++ (distances xs ∷ [])) xss)))))
 
 -- the refusal; or the header, a line for each hit of the text, and the attempts
 unfoldable pub answerTo : Input → List ℕ

@@ -1,8 +1,8 @@
 -- Members of a list: by their places, of mapped lists and tables, and tests of one or all of them.
 use Rattle.lists.proofs.Prelude.{_++_, true, false, _+_, _≡_, _∙_, ap, sym, refl, subst, inl, inr, _⊎_, _↔_, Bool, _||_, List, [], _∷_, map, List·Memᴰ}
-use Rattle.lists.proofs.Prelude.{List·Memᴰ·head, List·Memᴰ·tail, List·Memᴰ·not-nil, List·Memᴰ·cases-cons, ℕ, zero, suc, _<_, T, length, getD, decLt}
-use Rattle.lists.proofs.Prelude.{arith, tabulate, any, all, ap₂}
-use Rattle.lists.proofs.Tests.{T-true, true-T, clash, and-split, and-join, or-cases, or-left, or-right}
+use Rattle.lists.proofs.Prelude.{List·Memᴰ·head, List·Memᴰ·tail, List·Memᴰ·not-nil, List·Memᴰ·cases-cons, ℕ, zero, suc, _≤_, _<_, T, length, getD, decLt}
+use Rattle.lists.proofs.Prelude.{arith, tabulate, any, all, ap₂, take, drop, take-append-drop, take-suc, take-all, add-one}
+use Rattle.lists.proofs.Tests.{T-true, true-T, clash, and-split, and-join, or-cases, or-left, or-right, none-left, none-right, or-false}
 use Rattle.lists.proofs.Tables.{length-tabulate, getD-tabulate}
 
 -- ---- by their places
@@ -83,6 +83,47 @@ any-append test (x ∷ xs) ys = go (test x) (any-append test xs ys)
     go : (b : Bool) → any test (xs ++ ys) ≡ any test xs || any test ys → b || any test (xs ++ ys) ≡ (b || any test xs) || any test ys
     go true e = refl
     go false e = e
+
+-- ---- a test that none passes
+
+module _ {A : Type 0} (test : A → Bool) where
+  -- none of what stands before something, or behind it
+  pub none-front : (xs ys : List A) → any test (xs ++ ys) ≡ false → any test xs ≡ false
+  none-front xs ys e = none-left (any test xs) (any test ys) (sym (any-append test xs ys) ∙ e)
+
+  pub none-back : (xs ys : List A) → any test (xs ++ ys) ≡ false → any test ys ≡ false
+  none-back xs ys e = none-right (any test xs) (any test ys) (sym (any-append test xs ys) ∙ e)
+
+  pub none-take : (n : ℕ) (xs : List A) → any test xs ≡ false → any test (take n xs) ≡ false
+  none-take n xs e = none-front (take n xs) (drop n xs) (ap (any test) (take-append-drop n xs) ∙ e)
+
+  pub none-drop : (n : ℕ) (xs : List A) → any test xs ≡ false → any test (drop n xs) ≡ false
+  none-drop n xs e = none-back (take n xs) (drop n xs) (ap (any test) (take-append-drop n xs) ∙ e)
+
+  -- one element more
+  pub any-snoc : (xs : List A) (x : A) → any test (xs ++ (x ∷ [])) ≡ any test xs || test x
+  unfolding any
+  any-snoc xs x = any-append test xs (x ∷ []) ∙ ap (λ (b : Bool). any test xs || b) (or-false (test x))
+
+  pub none-snoc : (xs : List A) (x : A) → any test xs ≡ false → test x ≡ false → any test (xs ++ (x ∷ [])) ≡ false
+  none-snoc xs x e f = any-snoc xs x ∙ (rw (e, f) refl)
+
+  -- ---- the elements looked through so far, from the first on
+
+  pub scan-start : (xs : List A) → any test (take 0 xs) ≡ false
+  unfolding any
+  scan-start xs = refl
+
+  pub scan-more : (xs : List A) (d : A) (i : ℕ) → any test (take i xs) ≡ false → i < length xs → test (getD xs i d) ≡ false
+      → any test (take (i + 1) xs) ≡ false
+  scan-more xs d i e h f =
+      ap (λ (n : ℕ). any test (take n xs)) (add-one i) ∙ ap (any test) (take-suc xs i d h) ∙ none-snoc (take i xs) (getD xs i d) e f
+
+  pub scan-found : (xs : List A) (d : A) (i : ℕ) → i < length xs → test (getD xs i d) ≡ true → any test xs ≡ true
+  scan-found xs d i h e = true-T (any test xs) (mem-any test xs (getD xs i d) (getD-mem xs i d h) (T-true (test (getD xs i d)) e))
+
+  pub scan-end : (xs : List A) (i : ℕ) → length xs ≤ i → any test (take i xs) ≡ false → any test xs ≡ false
+  scan-end xs i h e = ap (any test) (sym (take-all i xs h)) ∙ e
 
 -- ---- a test that all pass
 

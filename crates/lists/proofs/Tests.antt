@@ -54,6 +54,14 @@ pub or-right : (a b : Bool) → T b → T (a || b)
 or-right true b t = tt
 or-right false b t = t
 
+pub none-left : (a b : Bool) → a || b ≡ false → a ≡ false
+none-left true b e = e
+none-left false b e = refl
+
+pub none-right : (a b : Bool) → a || b ≡ false → b ≡ false
+none-right true b e = absurd (subst T e tt)
+none-right false b e = e
+
 pub or-false : (a : Bool) → (a || false) ≡ a
 or-false true = refl
 or-false false = refl

@@ -4,3 +4,4 @@ pub mod Offsets
 pub mod IsSet
 pub mod Good
 pub mod Without
+pub mod MaySearch

@@ -1,6 +1,6 @@
 -- Sets of patterns and the words they lie in. Document 01: Set.
-use Rattle.lists.specs.Prelude.{_≡_, Bool, true, cond, _&&_, List, [], _∷_, _++_, flatten, ℕ, suc, _+_, _-_, leb, length, getD, take, drop, tabulate, all}
-use Rattle.lists.specs.Prelude.{begins}
+use Rattle.lists.specs.Prelude.{_≡_, Bool, true, cond, not, _&&_, List, [], _∷_, _++_, flatten, ℕ, suc, _+_, _-_, eqb, leb, length, getD, take, drop, tabulate}
+use Rattle.lists.specs.Prelude.{any, all, begins}
 use Rattle.realization.specs.Realization.{realizable}
 
 -- the patterns' distance lists; a pattern's number is its place
@@ -21,6 +21,18 @@ goodPattern p = leb 1 (length p) && leb (length p) 256 && realizable p
 
 unfoldable pub goodSet : PatternSet → Bool
 goodSet ps = leb (length ps) 64 && leb (length (flatten ps)) 4096 && all goodPattern ps
+
+-- has a pattern, given as values or as distances, one value
+abbrev pub hasOneValue : {A : Type 0} → List A → Bool
+hasOneValue xs = eqb (length xs) 1
+
+-- does the set hold a pattern of one value: it would hit at every sample
+abbrev pub holdsOneValue : PatternSet → Bool
+holdsOneValue ps = any hasOneValue ps
+
+-- may the set be searched: it is good, it holds a pattern, and none of one value. Document 02, 2.6
+unfoldable pub maySearch : PatternSet → Bool
+maySearch ps = goodSet ps && leb 1 (length ps) && not (holdsOneValue ps)
 
 -- pattern j as the array's first words tell of it, whatever they are
 unfoldable pub patternIn : List ℕ → ℕ → List ℕ

@@ -2,6 +2,7 @@
 -- proved in Run.antt.
 use Rattle.lists.proofs.Prelude.{_≡_, ap, refl, _++_, ℕ, zero, suc, _*_, _<_, length, drop, arith}
 use Rattle.entries.specs.Entries.{firstMet, unless, streamConditions}
+use Rattle.entries.proofs.Searchable.{searched-iff}
 use Rattle.entries.proofs.Stream.{accepted-room}
 use Rattle.pattern_set.specs.PatternSet.{patternsOf}
 use Rattle.pattern_set.proofs.IsSet.{isSet-iff}
@@ -29,6 +30,7 @@ demand1 = record {
   lists = realizable-iff;
   codes = isRank-iff;
   sets = isSet-iff;
+  searched = searched-iff;
 }
 
 pub demand2 : Demand2

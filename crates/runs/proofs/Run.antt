@@ -7,8 +7,9 @@ use Rattle.lists.proofs.Prelude.{inr, _⊎_}
 use Rattle.lists.proofs.Tests.{true-T, T-true}
 use Rattle.answers.specs.declared.SearchState.{SearchState}
 use Rattle.answers.specs.Told.{newSearch}
-use Rattle.pattern_set.specs.PatternSet.{PatternSet, goodSet, setWords, patternsOf, IsSet}
+use Rattle.pattern_set.specs.PatternSet.{PatternSet, goodSet, holdsOneValue, setWords, patternsOf, IsSet}
 use Rattle.pattern_set.proofs.IsSet.{begins-set, isSet-words, patternsOf-words}
+use Rattle.pattern_set.proofs.MaySearch.{maySearch-parts}
 use Rattle.matching.specs.Matching.{hits, hitWords, candidates}
 use Rattle.entries.specs.Entries.{firstMet, unless, told, after, Counts, streamConditions, filterEntry}
 use Rattle.automaton_model.specs.Automaton.{automatonWords}
@@ -160,12 +161,12 @@ one-by ps text st k s more o q e r l m v b w =
           (2 * toldOr0 (λ t. t .1 .2) (t .tells)) (t .leaves)) (sym o) (rw e w);
     }
 
-module _ (ps : PatternSet) (g : T (goodSet ps)) (z : 0 < length ps) where
+module _ (ps : PatternSet) (g : T (goodSet ps)) (z : 0 < length ps) (many : holdsOneValue ps ≡ false) where
   lent-set : (k : Call) → isLent ps k ≡ true → IsSet (k .set) × (patternsOf (k .set) ≡ ps)
   lent-set k e = begins-set (k .set) ps g (T-true (isLent ps k) e)
 
-  -- under the set the refusals are the reference's: 1, 5 and 8 never hold, and 9 is as counted from
-  -- the text
+  -- under the set the refusals are the reference's: 1, 5, 15 and 8 never hold, and 9 is as counted
+  -- from the text
   refusal-same : (text : List ℤ) (st : SearchState) (k : Call) → Represents ps text st → length text ≤ 1048576 → isLent ps k ≡ true
       → refusalBy st k ≡ refusalOf ps text k
   unfolding streamConditions refusalOf
@@ -174,6 +175,7 @@ module _ (ps : PatternSet) (g : T (goodSet ps)) (z : 0 < length ps) where
         lent-set k e .0,
         lent-set k e .1,
         ne-eqb (length ps) 0 (λ q. let w : ⊥ = omega arith in w),
+        many,
         true-T (goodState ps st)
             (represents-good ps g z text st r l),
         r .count,
@@ -302,6 +304,7 @@ module _ (ps : PatternSet) (g : T (goodSet ps)) (z : 0 < length ps) where
         isSet-words ps ws g,
         patternsOf-words ps ws g,
         ne-eqb (length ps) 0 (λ q. let w : ⊥ = omega arith in w),
+        many,
         le-ltb 1048576
             (length text) l,
         le-ltb (length out) (2 * length (hits ps text))
@@ -346,6 +349,7 @@ admitted-take ps (c ∷ cs) st zero a = tt
 admitted-take ps (c ∷ cs) st (suc n) a = (a .0, admitted-take ps cs (nextState st c) n (a .1))
 
 pub run-theorem : RunTheorem
-run-theorem ps g z cs a n =
+run-theorem ps t cs a n =
+    let p = maySearch-parts ps t in
     subst (λ (seen : List Seen). Run ps (take n cs) seen (taken ps [] (take n cs)) (lastState newSearch (take n cs)))
-    (sym (observe-take ps cs newSearch n)) (run-of ps g z (take n cs) (admitted-take ps cs newSearch n a))
+    (sym (observe-take ps cs newSearch n)) (run-of ps (p .0) (p .1) (p .2) (take n cs) (admitted-take ps cs newSearch n a))

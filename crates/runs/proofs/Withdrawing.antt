@@ -7,8 +7,9 @@ use Rattle.lists.proofs.Same.{same-eq}
 use Rattle.answers.specs.declared.SearchState.{SearchState}
 use Rattle.answers.specs.Told.{newSearch}
 use Rattle.cartesian.specs.Cartesian.{distances}
-use Rattle.pattern_set.specs.PatternSet.{PatternSet, setWords, patternsOf, without}
-use Rattle.pattern_set.proofs.IsSet.{set-good, set-begins}
+use Rattle.pattern_set.specs.PatternSet.{PatternSet, maySearch, setWords, patternsOf, without}
+use Rattle.pattern_set.proofs.IsSet.{set-begins}
+use Rattle.pattern_set.proofs.MaySearch.{maySearch-without}
 use Rattle.pattern_set.proofs.Without.{without-last}
 use Rattle.matching.specs.Matching.{hits, hitWords, candidates}
 use Rattle.matching.specs.Withdrawn.{hitsWithout}
@@ -42,6 +43,13 @@ module _ (ws : List ℕ) (j : ℕ) (e : firstMet (withdrawEntry ws j .conditions
   list-le : (text : List ℤ) → length (hits (patternsOf left) text) ≤ length (hits (patternsOf ws) text)
   list-le text = rw (held .patterns) (hits-without-le (patternsOf ws) j (withdraw-given ws j e .1) text)
 
+  -- what remains may be searched, where the set before might
+  may-left : 0 < length (patternsOf left) → T (maySearch (patternsOf ws)) → T (maySearch (patternsOf left))
+  may-left z t =
+      let q = held .patterns in
+      subst (λ (ps : PatternSet). T (maySearch ps)) (sym q)
+      (maySearch-without (patternsOf ws) j (withdraw-given ws j e .1) (subst (λ (ps : PatternSet). 0 < length ps) q z) t)
+
   -- a filter search needs no more room than before
   filter-left : 0 < length (patternsOf left) → (text : List ℤ) (out : List ℕ) → firstMet (filterEntry ws text out .conditions) ≡ 0
       → let new = hitsWithout j (hits (patternsOf ws) text) in
@@ -49,7 +57,7 @@ module _ (ws : List ℕ) (j : ℕ) (e : firstMet (withdrawEntry ws j .conditions
       × (after (filterEntry left text out) out ≡ hitWords new ++ drop (length (hitWords new)) out)
   filter-left z text out f =
       let g = filter-given ws text out f in
-      let a = filter-accepted left text out (held .good) z (g .0) (omega (arith, list-le text, g .1)) in
+      let a = filter-accepted left text out (held .good) (may-left z (g .0)) (g .1) (omega (arith, list-le text, g .2)) in
       let E = filterEntry left text out in
       let n : ℕ = candidates (patternsOf left) text in
       let c : _≡_ {A = ℕ × ℕ} (length (hitsWithout j (hits (patternsOf ws) text)), n) (E .counts) =
@@ -59,19 +67,19 @@ module _ (ws : List ℕ) (j : ℕ) (e : firstMet (withdrawEntry ws j .conditions
       )
 
   -- the calls of a stream search write the hits of the text that they take
-  stream-left : 0 < length (patternsOf left) → (cs : List Call) → Admitted (patternsOf left) newSearch cs
+  stream-left : T (maySearch (patternsOf left)) → (cs : List Call) → Admitted (patternsOf left) newSearch cs
       → written (observe (patternsOf left) newSearch cs) ≡ hitWords (hitsWithout j (hits (patternsOf ws) (taken (patternsOf left) [] cs)))
-  stream-left z cs a =
+  stream-left t cs a =
       let ps = patternsOf left in
       let seen = observe ps newSearch cs in
-      let r = run-theorem ps (set-good left (held .good)) z cs a (length cs) in
+      let r = run-theorem ps t cs a (length cs) in
       ap written (sym (take-all (length cs) seen (omega (arith, length-observe ps newSearch cs))))
       ∙ r .list
       ∙ ap (λ (ds : List Call). hitWords (hits ps (taken ps [] ds))) (take-length cs)
       ∙ ap hitWords (list-left (taken ps [] cs))
 
   withdrawn : Withdrawn ws j left
-  withdrawn = record { good = held .good; patterns = held .patterns; list = list-left; filtered = filter-left; streamed = stream-left }
+  withdrawn = record { good = held .good; patterns = held .patterns; list = list-left; searched = may-left; filtered = filter-left; streamed = stream-left }
 
 -- ---- an accepted add, taken back
 

@@ -8,13 +8,13 @@ use Rattle.answers.specs.Told.{newSearch}
 use Rattle.cartesian.specs.Cartesian.{tree, distances, treeOf}
 use Rattle.realization.specs.Realization.{Realizable, realizable, IsLeast, leastRealization}
 use Rattle.ranking.specs.Rank.{rank, isRank}
-use Rattle.pattern_set.specs.PatternSet.{PatternSet, goodSet, setWords, IsSet, patternsOf}
+use Rattle.pattern_set.specs.PatternSet.{PatternSet, goodSet, maySearch, setWords, IsSet, patternsOf}
 use Rattle.matching.specs.Matching.{hits, hitWords, candidates}
 use Rattle.matching.specs.HitList.{IsHitList}
 use Rattle.automaton_model.specs.Automaton.{headOf}
 use Rattle.search_model.specs.Ring.{placeAt, valueAt}
 use Rattle.search_model.specs.Search.{ringOf}
-use Rattle.entries.specs.Entries.{Entry, firstMet, told, after, Counts, streamConditions, streamEntry, streamState, filterEntry}
+use Rattle.entries.specs.Entries.{Entry, firstMet, told, after, Counts, setConditions, streamConditions, streamEntry, streamState, filterEntry}
 use Rattle.runs.specs.ReferenceRun.{Call, Seen, isLent, reference, taken, longestHead, openPlaces}
 
 -- Demand 1. The entries ask nothing of their callers, and each refuses on the conditions that
@@ -27,10 +27,12 @@ pub record Demand1 : Type 1 where
   pub handsBack : (ws am out : List ℕ) (st : SearchState) (xs : List ℤ) → 0 < firstMet (streamConditions ws am st xs out) → streamState ws am st xs out ≡ st
   -- The tests in the conditions decide what document 01 says. A list of distances passes exactly if
   -- some values have it; a code exactly if a realizable list of that length has it; a set array
-  -- exactly if it begins with the words of a good set
+  -- exactly if it begins with the words of a good set; and it passes as one to be searched exactly
+  -- if that set may be searched
   pub lists : (ds : List ℕ) → T (realizable ds) ↔ Realizable ds
   pub codes : (n code : ℕ) → T (isRank n code) ↔ ((ds : List ℕ) × Realizable ds × (length ds ≡ n) × (rank ds ≡ code))
   pub sets : (ws : List ℕ) → IsSet ws ↔ ((ps : PatternSet) × T (goodSet ps) × T (begins ws (setWords ps)))
+  pub searched : (ws : List ℕ) → (firstMet (setConditions ws) ≡ 0) ↔ (IsSet ws × T (maySearch (patternsOf ws)))
 
 -- Demand 2
 pub record Demand2 : Type 0 where
@@ -44,7 +46,8 @@ pub record Demand2 : Type 0 where
   -- each once and in order
   pub listed : (ps : PatternSet) (text : List ℤ) → IsHitList ps text (hits ps text)
 
--- ---- Demand 3, as one statement about any list of stream search calls from a new state
+-- ---- Demand 3, as one statement about any list of stream search calls from a new state, under a
+-- set that may be searched
 
 -- ---- what the entry's promise says of each call, given the state that the one before handed back
 
@@ -113,9 +116,10 @@ pub record Run (ps : PatternSet) (cs : List Call) (seen : List Seen) (R : List �
       → (told (0, 0) (filterEntry (setWords ps ++ ws) R out) ≡ (0, (length (hits ps R), candidates ps R)))
       × (after (filterEntry (setWords ps ++ ws) R out) out ≡ written seen ++ drop (length (written seen)) out)
 
--- THE RUN THEOREM: it holds after each call, the nth among them, and so at every front of the list
+-- THE RUN THEOREM, of every set that may be searched: it holds after each call, the nth among
+-- them, and so at every front of the list
 abbrev pub RunTheorem : Type 0
-RunTheorem = (ps : PatternSet) → T (goodSet ps) → 0 < length ps → (cs : List Call) → Admitted ps newSearch cs → (n : ℕ)
+RunTheorem = (ps : PatternSet) → T (maySearch ps) → (cs : List Call) → Admitted ps newSearch cs → (n : ℕ)
     → Run ps (take n cs) (take n (observe ps newSearch cs)) (taken ps [] (take n cs)) (lastState newSearch (take n cs))
 
 -- what a call that was handed the values and an array of so many words counts, under k patterns

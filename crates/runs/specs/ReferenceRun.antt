@@ -48,8 +48,8 @@ attemptsOn ps text (x ∷ xs) = attempts ps text x + attemptsOn ps (text ++ (x �
 abbrev pub isLent : PatternSet → Call → Bool
 isLent ps c = begins (c .set) (setWords ps)
 
--- its refusal, where it is lent the set; 0 where it is accepted. 9 counts from the text, and 8
--- never holds
+-- its refusal, where it is lent the set; 0 where it is accepted. 9 counts from the text. 8 never
+-- holds, and 1, 5 and 15 do not of a set that may be searched
 unfoldable pub refusalOf : PatternSet → List ℤ → Call → ℕ
 refusalOf ps text c =
     cond (not (begins (c .automaton) (automatonWords ps))) 7

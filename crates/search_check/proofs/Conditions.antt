@@ -1,33 +1,28 @@
--- The conditions of a search over a set and its automaton: which is the first met.
-use Rattle.lists.proofs.Prelude.{_≡_, _∙_, refl, Bool, true, false, not, List, [], _∷_, ℕ, length, begins}
-use Rattle.pattern_set.specs.PatternSet.{patternsOf, isSet, IsSet}
+-- The conditions of a search over a set that may be searched: the automaton decides.
+use Rattle.lists.proofs.Prelude.{_≡_, _∙_, refl, true, false, not, List, [], _∷_, ℕ, T, begins}
+use Rattle.answers.specs.declared.Refusal.{Refusal}
+use Rattle.answers.specs.Told.{number}
+use Rattle.answers.proofs.Refusals.{number-positive}
+use Rattle.pattern_set.specs.PatternSet.{IsSet, patternsOf, maySearch}
 use Rattle.automaton_model.specs.Automaton.{automatonWords}
-use Rattle.entries.specs.Entries.{Conditions, firstMet, isUnsearchable, searchConditions}
-use Rattle.entries.proofs.Refusals.{met, unmet}
-use Rattle.entries.proofs.Searchable.{broken-searchable, empty-unsearchable, filled-searchable, is-broken, not-broken}
+use Rattle.entries.specs.Entries.{Conditions, firstMet, setConditions, searchConditions}
+use Rattle.entries.proofs.Refusals.{met-before}
+use Rattle.entries.proofs.Searchable.{set-unmet, set-accepted}
 
 module _ (ws automaton : List ℕ) where
-  abbrev isOther : Bool
-  isOther = not (begins automaton (automatonWords (patternsOf ws)))
-
   abbrev fromSeven : Conditions
-  fromSeven = (7, isOther) ∷ []
+  fromSeven = (7, not (begins automaton (automatonWords (patternsOf ws)))) ∷ []
 
-  abbrev fromFive : Conditions
-  fromFive = (5, not (isSet ws)) ∷ fromSeven
+  -- a set that may not be searched
+  pub unsearchable : (r : Refusal) → firstMet (setConditions ws) ≡ number r → firstMet (searchConditions ws automaton) ≡ number r
+  unsearchable r e = met-before (setConditions ws) fromSeven (number r) (number-positive r) e
 
-  pub broken : isSet ws ≡ false → firstMet (searchConditions ws automaton) ≡ 5
-  broken b = unmet 1 (isUnsearchable ws) fromFive (broken-searchable ws b) ∙ met 5 (not (isSet ws)) fromSeven (is-broken ws b)
-
-  pub empty : IsSet ws → length (patternsOf ws) ≡ 0 → firstMet (searchConditions ws automaton) ≡ 1
-  empty b z = met 1 (isUnsearchable ws) fromFive (empty-unsearchable ws b z)
-
-  module _ (b : IsSet ws) (z : length (patternsOf ws) ≡ 0 → ⊥) where
-    searchable : firstMet (searchConditions ws automaton) ≡ firstMet fromSeven
-    searchable = unmet 1 (isUnsearchable ws) fromFive (filled-searchable ws b z) ∙ unmet 5 (not (isSet ws)) fromSeven (not-broken ws b)
+  module _ (s : IsSet ws) (t : T (maySearch (patternsOf ws))) where
+    from-seven : firstMet (searchConditions ws automaton) ≡ firstMet fromSeven
+    from-seven = set-accepted ws fromSeven (set-unmet ws s t)
 
     pub other : begins automaton (automatonWords (patternsOf ws)) ≡ false → firstMet (searchConditions ws automaton) ≡ 7
-    other a = searchable ∙ (rw a refl)
+    other a = from-seven ∙ (rw a refl)
 
     pub none : begins automaton (automatonWords (patternsOf ws)) ≡ true → firstMet (searchConditions ws automaton) ≡ 0
-    none a = searchable ∙ (rw a refl)
+    none a = from-seven ∙ (rw a refl)

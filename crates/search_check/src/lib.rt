@@ -1,4 +1,6 @@
-// Checking the set and the automaton that a search is lent. Document 01: refusals 1 5 7.
+// Checking the set and the automaton that a search is lent. Refusals 1 5 15 7.
+ghost use Rattle.lists.specs.Prelude.{_≡_, T, length};
+ghost use Rattle.pattern_set.specs.PatternSet.{IsSet, patternsOf, maySearch};
 ghost use Rattle.search_check.specs.Checked.{IsChecked};
 use answers::Refusal;
 use answers::SetSize;
@@ -9,19 +11,25 @@ pub enum SearchSize {
     Refused(Refusal),
 }
 
+// Tells the k patterns and the nodes of a set that may be searched and its automaton, or that the
+// array does not begin with it.
+fn check_automaton(set: &[u32], automaton: &[u32], k: usize) -> SearchSize
+    requires { ⌜ IsSet (now set) × T (maySearch (patternsOf (now set))) × (k ≡ length (patternsOf (now set))) ⌝ }
+    ensures { λ r. ⌜ IsChecked (now (set .entry)) (now (automaton .entry)) r ⌝ }
+{
+    if !automaton::is_automaton(set, automaton) {
+        return SearchSize::Refused(Refusal::OtherAutomaton);
+    }
+    SearchSize::Holds(k, automaton_lookup::node_count(set, automaton, k, 0))
+}
+
 // Tells the patterns and the nodes of a set that may be searched and its automaton, or why there
 // are none.
 pub fn check_search(set: &[u32], automaton: &[u32]) -> SearchSize
     ensures { λ r. ⌜ IsChecked (now (set .entry)) (now (automaton .entry)) r ⌝ }
 {
-    let SetSize::Holds(k, _) = set_arrays::check_set(set) else {
-        return SearchSize::Refused(Refusal::BrokenSet);
-    };
-    if k == 0 {
-        return SearchSize::Refused(Refusal::Empty);
+    match searchable_set::check_searchable(set) {
+        SetSize::Holds(k, _) => check_automaton(set, automaton, k),
+        SetSize::Refused(r) => SearchSize::Refused(r),
     }
-    if !automaton::is_automaton(set, automaton) {
-        return SearchSize::Refused(Refusal::OtherAutomaton);
-    }
-    SearchSize::Holds(k, automaton_lookup::node_count(set, automaton, k, 0))
 }

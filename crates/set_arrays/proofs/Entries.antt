@@ -1,11 +1,12 @@
 -- What the entries tell, and what they leave in the array, by the tests that they made.
-use Rattle.lists.proofs.Prelude.{_≡_, _∙_, ap, sym, refl, subst, ap₂, true, false, _||_, List, [], _∷_, _++_, flatten, ℕ, suc, _+_, _≤_, _<_, ℤ, T, leb, ltb}
-use Rattle.lists.proofs.Prelude.{begins, length, getD, drop, length-append, arith, eq-eqb, le-leb, ne-eqb, lt-leb, lt-ltb, le-ltb}
+use Rattle.lists.proofs.Prelude.{_≡_, _∙_, ap, sym, refl, subst, ap₂, Bool, true, false, _||_, List, [], _∷_, _++_, flatten, ℕ, suc, _+_, _≤_, _<_, ℤ, T}
+use Rattle.lists.proofs.Prelude.{leb, ltb, begins, length, getD, drop, length-append, arith, eq-eqb, ne-eqb, lt-ltb, le-ltb, leb-false, ltb-false}
+use Rattle.lists.proofs.Tests.{none-left, none-right}
 use Rattle.lists.proofs.Same.{begins-iff}
 use Rattle.gaps.specs.Gaps.{holdsGap}
 use Rattle.cartesian.specs.Cartesian.{distances}
 use Rattle.cartesian.proofs.Seek.{length-distances}
-use Rattle.pattern_set.specs.PatternSet.{PatternSet, setWords, patternsIn, patternsOf, isSet}
+use Rattle.pattern_set.specs.PatternSet.{PatternSet, setWords, hasOneValue, patternsIn, patternsOf, isSet}
 use Rattle.pattern_set.proofs.IsSet.{patternsOf-in, set-begins}
 use Rattle.pattern_set.proofs.Words.{length-setWords}
 use Rattle.entries.specs.Entries.{firstMet, told, after, checkEntry, addEntry}
@@ -24,6 +25,12 @@ pub check-holds : (ws : List ℕ) (k n : ℕ) → isSet ws ≡ true → k ≡ ge
 check-holds ws k n h p q =
     let f = set-follows ws h in
     rw (h, patternsOf-in ws h) (ap₂ (λ (a b : ℕ). (0, (a, b))) (p ∙ sym (length-patterns ws f)) (q ∙ sym (distances-in ws f)))
+
+-- ---- is_full
+
+-- a set that is not full has room
+pub not-full : (k n m : ℕ) → leb 64 k || ltb 4096 (n + m) ≡ false → (k < 64) × (n + m ≤ 4096)
+not-full k n m f = (leb-false 64 k (none-left (leb 64 k) (ltb 4096 (n + m)) f), ltb-false 4096 (n + m) (none-right (leb 64 k) (ltb 4096 (n + m)) f))
 
 -- ---- add_pattern
 
@@ -61,8 +68,11 @@ pub record InOrder (ws : List ℕ) (xs : List ℤ) (k n : ℕ) : Type 0 where
 
 -- then the counts decide
 module _ {ws : List ℕ} {xs : List ℤ} {k n : ℕ} (o : InOrder ws xs k n) where
+  abbrev isFull : ℕ → ℕ → Bool
+  isFull a b = leb 64 a || ltb 4096 (b + length xs)
+
   abbrev left : ℕ → ℕ → ℕ
-  left a b = firstMet ((6, leb 64 a || ltb 4096 (b + length xs)) ∷ (10, ltb (length ws) (4 + a + (b + length xs))) ∷ [])
+  left a b = firstMet ((6, isFull a b) ∷ (15, hasOneValue xs) ∷ (10, ltb (length ws) (4 + a + (b + length xs))) ∷ [])
 
   patterns-in : length (patternsIn ws) ≡ k
   patterns-in = length-patterns ws (set-follows ws (o .good)) ∙ sym (o .patterns)
@@ -74,25 +84,24 @@ module _ {ws : List ℕ} {xs : List ℤ} {k n : ℕ} (o : InOrder ws xs k n) whe
   counts =
       rw (ne-eqb (length xs) 0 (o .some), le-ltb 256 (length xs) (o .short), o .whole, o .good, patternsOf-in ws (o .good)) (ap₂ left patterns-in sum-in)
 
-  pub add-many : 64 ≤ k → Refuses ws xs 6
-  add-many l = refused ws xs 5 (counts ∙ rw (le-leb 64 k l) refl)
+  pub add-full : isFull k n ≡ true → Refuses ws xs 6
+  add-full f = refused ws xs 5 (counts ∙ rw f refl)
 
-  pub add-over : k < 64 → 4096 < n + length xs → Refuses ws xs 6
-  add-over l m = refused ws xs 5 (counts ∙ rw (lt-leb 64 k l, lt-ltb 4096 (n + length xs) m) refl)
+  pub add-one-value : isFull k n ≡ false → length xs ≡ 1 → Refuses ws xs 15
+  add-one-value f m = refused ws xs 14 (counts ∙ rw (f, eq-eqb (length xs) 1 m) refl)
 
-  pub add-short : k < 64 → n + length xs ≤ 4096 → length ws < 4 + k + n + length xs → Refuses ws xs 10
-  add-short l m s =
-      refused ws xs 9 (counts ∙ rw (lt-leb 64 k l, le-ltb 4096 (n + length xs) m, lt-ltb (length ws) (4 + k + (n + length xs)) (omega arith)) refl)
+  pub add-short : isFull k n ≡ false → (length xs ≡ 1 → ⊥) → length ws < 4 + k + n + length xs → Refuses ws xs 10
+  add-short f m s = refused ws xs 9 (counts ∙ rw (f, ne-eqb (length xs) 1 m, lt-ltb (length ws) (4 + k + (n + length xs)) (omega arith)) refl)
 
-  pub add-done : {vs : List ℕ} → k < 64 → n + length xs ≤ 4096 → 4 + k + n + length xs ≤ length ws → vs ≡ appended k n (distances xs) ws
+  pub add-done : {vs : List ℕ} → isFull k n ≡ false → (length xs ≡ 1 → ⊥) → 4 + k + n + length xs ≤ length ws → vs ≡ appended k n (distances xs) ws
       → (_≡_ {A = ℕ × (ℕ × ℕ)} (0, (k + 1, n + length xs)) (told (0, 0) (addEntry ws xs))) × (vs ≡ after (addEntry ws xs) ws)
-  add-done {vs} l m s e =
+  add-done {vs} f m s e =
       let ps = patternsIn ws in
       let new = setWords (ps ++ (distances xs ∷ [])) in
       let is : patternsOf ws ≡ ps = patternsOf-in ws (o .good) in
       let w = begins-iff ws (setWords ps) .0 (subst (λ (qs : PatternSet). T (begins ws (setWords qs))) is (set-begins ws (o .good))) in
       let accepted : firstMet (addEntry ws xs .conditions) ≡ 0 =
-      counts ∙ rw (lt-leb 64 k l, le-ltb 4096 (n + length xs) m, le-ltb (length ws) (4 + k + (n + length xs)) (omega arith)) refl in
+      counts ∙ rw (f, ne-eqb (length xs) 1 m, le-ltb (length ws) (4 + k + (n + length xs)) (omega arith)) refl in
       let size : length ws ≡ 3 + length ps + length (flatten ps) + length (w .0) =
       ap length (w .1) ∙ length-append (setWords ps) (w .0) ∙ ap (λ (i : ℕ). i + length (w .0)) (length-setWords ps) in
       let written : appended (length ps) (length (flatten ps)) (distances xs) (setWords ps ++ w .0) ≡ new ++ drop (length new) (setWords ps ++ w .0) =

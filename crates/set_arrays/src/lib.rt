@@ -1,6 +1,6 @@
 // The entries on sets of patterns that lie in lent arrays: write the empty set, check an array, add
 // a pattern.
-ghost use Rattle.lists.specs.Prelude.{_≡_};
+ghost use Rattle.lists.specs.Prelude.{_≡_, _||_, _+_, _≤_, leb, ltb};
 ghost use Rattle.answers.specs.Told.{toldWritten, toldSize};
 ghost use Rattle.entries.specs.Entries.{told, after, emptySetEntry, checkEntry, addEntry};
 use answers::Refusal;
@@ -34,8 +34,19 @@ pub fn check_set(words: &[u32]) -> SetSize
     SetSize::Holds(casts::wide(words[0]), casts::wide(words[1]))
 }
 
+// Whether a set of k patterns and n distances has no room for a pattern of m values.
+fn is_full(k: usize, n: usize, m: usize) -> bool
+    requires { ⌜ (n ≤ 4096) × (m ≤ 256) ⌝ }
+    ensures { λ r. ⌜ r ≡ leb 64 k || ltb 4096 (n + m) ⌝ }
+{
+    if k >= 64 {
+        return true;
+    }
+    n + m > 4096
+}
+
 // Adds a pattern, given as values, to the set with whose words the array begins: it becomes the
-// last one.
+// last one. Refuses 1 2 13 5 6 15 10.
 pub fn add_pattern(words: &mut [u32], values: &[i32]) -> SetSize
     ensures { λ r. ⌜ toldSize r ≡ told (0, 0) (addEntry (now (words .entry)) (now (values .entry))) ⌝ }
     ensures { λ _. ⌜ now (words .exit) ≡ after (addEntry (now (words .entry)) (now (values .entry))) (now (words .entry)) ⌝ }
@@ -55,11 +66,12 @@ pub fn add_pattern(words: &mut [u32], values: &[i32]) -> SetSize
     }
     let k = casts::wide(words[0]);
     let n = casts::wide(words[1]);
-    if k >= 64 {
+    let full = is_full(k, n, m);
+    if full {
         return SetSize::Refused(Refusal::SetFull);
     }
-    if n + m > 4096 {
-        return SetSize::Refused(Refusal::SetFull);
+    if m == 1 {
+        return SetSize::Refused(Refusal::OneValue);
     }
     if words.len() < 4 + k + n + m {
         return SetSize::Refused(Refusal::ArrayTooShort);

@@ -1,5 +1,5 @@
 // The entry of the stream search, and the check of a state that a caller hands in. Document 01: A
-// ladder search; refusals 1 5 7 8 9 10. Document 02, 2.2.
+// ladder search; refusals 1 5 15 7 8 9 10. Document 02, 2.2 and 2.6.
 ghost use Rattle.lists.specs.Prelude.{_≡_, cond, _||_, _*_, eqb, leb, ltb};
 ghost use Rattle.answers.specs.Told.{number, toldStreamed};
 ghost use Rattle.pattern_set.specs.PatternSet.{patternsOf};

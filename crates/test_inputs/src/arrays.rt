@@ -92,6 +92,19 @@ pub fn held_until(a: &[u32], from: usize, v: u32) -> usize
     i
 }
 
+// Copies words to the front of an array, as far as both reach; returns how many.
+pub fn copy(words: &[u32], out: &mut [u32]) -> usize
+    ensures { λ r. ⌜ r ≡ min (length (now (words .entry))) (length (now (out .exit))) ⌝ }
+{
+    let n = smaller(words.len(), out.len());
+    let mut i = 0;
+    while i < n {
+        out[i] = words[i];
+        i += 1;
+    }
+    i
+}
+
 // Puts v to every place of an array; returns how many there are.
 pub fn hold(out: &mut [u32], v: u32) -> usize
     ensures { λ r. ⌜ r ≡ length (now (out .exit)) ⌝ }

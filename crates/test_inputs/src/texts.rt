@@ -127,7 +127,7 @@ pub fn pattern_length(number: usize) -> usize
     ensures { λ r. ⌜ r ≤ 256 ⌝ }
 {
     match number % 6 {
-        0 => 1,
+        0 => 2,
         1 => 16,
         2 => 17,
         3 => 18,

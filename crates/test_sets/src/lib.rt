@@ -50,7 +50,7 @@ pub fn add_made(set: &mut [u32], text: &[i32], kind: usize, n: usize, seed: usiz
     add_filled(set, &mut values, text, kind, n, seed)
 }
 
-// The set of k patterns of 1 to most + 1 values each; returns the seed to go on with.
+// The set of k patterns of 2 to most + 2 values each; returns the seed to go on with.
 pub fn make(set: &mut [u32], text: &[i32], kind: usize, k: usize, most: usize, seed: usize) -> usize
     ensures { λ r. ⌜ r < 2147483647 ⌝ }
 {
@@ -59,7 +59,7 @@ pub fn make(set: &mut [u32], text: &[i32], kind: usize, k: usize, most: usize, s
     let mut j: usize = 0;
     while j < k {
         s = texts::next(s);
-        let n = texts::pick(s, most) + 1;
+        let n = texts::pick(s, most) + 2;
         s = add_made(set, text, kind, n, s);
         j += 1;
     }

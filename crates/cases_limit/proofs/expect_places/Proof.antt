@@ -4,10 +4,13 @@ use Rattle.cases_limit.proofs.expect_places.Statement.{statement}
 use Rattle.cases_limit.proofs.expect_places.Tie as tie
 
 abbrev Inv-loop : tie.InvT-loop
-Inv-loop hits from i₀ i = i ≤ 4096
+Inv-loop hits from count n i₀ i = (i ≤ n) × (n ≤ 4096)
 
 abbrev μ-loop : tie.MeasureT-loop
-μ-loop hits from i₀ i = 4096 - i
+μ-loop hits from count n i₀ i = n - i
+
+smaller-requires : tie.Need-smaller-requires Inv-loop μ-loop
+smaller-requires c κs = search needs
 
 loop-holds : tie.Need-loop-holds Inv-loop μ-loop
 loop-holds c = search needs
@@ -54,6 +57,7 @@ expect-places-spec =
     (tie.spec
     Inv-loop
     μ-loop
+    smaller-requires
     loop-holds
     wrapping-add-usize-requires
     mul-expect-at

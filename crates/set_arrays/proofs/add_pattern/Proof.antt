@@ -1,26 +1,36 @@
 -- `add_pattern` makes the tests in the order of their numbers; where none is met the larger set has
 -- room, and `append` writes it.
-use Rattle.lists.proofs.Prelude.{_≡_, _∙_, sym, true, arith, not-false, not-true, needs}
+use Rattle.lists.proofs.Prelude.{_≡_, _∙_, sym, true, false, _||_, ℕ, _+_, _≤_, _<_, leb, ltb, length, arith, not-false, not-true, needs}
 use Rattle.pattern_set.specs.PatternSet.{isSet}
 use Rattle.set_arrays.proofs.SetRules.{Follows, set-follows}
-use Rattle.set_arrays.proofs.Entries.{InOrder, add-empty, add-long, add-gap, add-broken, add-many, add-over, add-short, add-done}
+use Rattle.set_arrays.proofs.Entries.{InOrder, add-empty, add-long, add-gap, add-broken, not-full, add-full, add-one-value, add-short, add-done}
 use Rattle.set_arrays.proofs.add_pattern.Statement.{statement}
 use Rattle.set_arrays.proofs.add_pattern.Tie as tie
 
--- the set is good
-good : (c : tie.Else4) → isSet (c .before .before .before .before .before .before .before .before .args .words .now) ≡ true
+-- ---- places: where the set is found good, where its counts are read, and where it is not full
+
+abbrev atStart : tie.Else4 → tie.Start
+atStart c = c .before .before .before .before .before .before .before .before
+
+abbrev checked : tie.After-wide2 → tie.Else4
+checked c = c .before .before .before .before
+
+abbrev counted : tie.Else5 → tie.After-wide2
+counted c = c .before .before
+
+-- ---- what is known there
+
+good : (c : tie.Else4) → isSet (atStart c .args .words .now) ≡ true
 good c = sym (c .before .is-set .ensures) ∙ not-false _ (c .if4 .left)
 
-follows : (c : tie.Else4) → Follows (c .before .before .before .before .before .before .before .before .args .words .now)
-follows c = set-follows (c .before .before .before .before .before .before .before .before .args .words .now) (good c)
+follows : (c : tie.Else4) → Follows (atStart c .args .words .now)
+follows c = set-follows (atStart c .args .words .now) (good c)
 
--- and its counts are read
 inOrder : (c : tie.After-wide2) →
-    let s = c .before .before .before .before in
-    let a = s .before .before .before .before .before .before .before .before .args in
+    let a = atStart (checked c) .args in
     InOrder (a .words .now) (a .values .now) (c .before .before .wide .result) (c .wide2 .result)
 inOrder c =
-    let s = c .before .before .before .before in
+    let s = checked c in
     let g = s .before .before .before in
     record {
       some = g .before .before .before .if1 .left;
@@ -30,6 +40,20 @@ inOrder c =
       patterns = c .before .before .wide .ensures;
       distanceCount = c .wide2 .ensures;
     }
+
+-- of the patterns k and the distances n, with the values
+abbrev Fits : (ℕ → ℕ → ℕ → Type 0) → tie.Else5 → Type 0
+Fits P c =
+    let w = counted c in
+    P (w .before .before .wide .result) (w .wide2 .result) (length (atStart (checked w) .args .values .now))
+
+notFull : (c : tie.Else5) → Fits (λ k n m. leb 64 k || ltb 4096 (n + m) ≡ false) c
+notFull c = sym (c .before .is-full .ensures) ∙ c .if5 .left
+
+fits : (c : tie.Else5) → Fits (λ k n m. (k < 64) × (n + m ≤ 4096)) c
+fits c = not-full _ _ _ (notFull c)
+
+-- ---- the needs
 
 returns : tie.Need-returns
 returns c = add-empty (c .before .before .args .words .now) (c .before .before .args .values .now) (c .if1 .taken)
@@ -72,57 +96,65 @@ slice-read-wide-2 c = omega (arith, follows (c .before .before .before) .room)
 wide-requires-2 : tie.Need-wide-requires-2
 wide-requires-2 c κs = search needs
 
+is-full-requires : tie.Need-is-full-requires
+is-full-requires c κs =
+    let s = checked c in
+    (omega (arith, follows s .short, c .wide2 .ensures), omega (arith, s .before .before .before .before .before .if2 .left))
+
 same-length-2 : tie.Need-same-length-2
 same-length-2 c = search needs
 
 returns-5 : tie.Need-returns-5
-returns-5 c = add-many (inOrder (c .before)) (omega (arith, c .if5 .taken))
-
-add-if6 : tie.Need-add-if6
-add-if6 c =
-    let s = c .before .before .before .before .before in
-    omega (arith, follows s .short, c .before .wide2 .ensures, s .before .before .before .before .before .if2 .left)
+returns-5 c = add-full (inOrder (c .before .before)) (sym (c .before .is-full .ensures) ∙ c .if5 .taken)
 
 same-length-3 : tie.Need-same-length-3
 same-length-3 c = search needs
 
 returns-6 : tie.Need-returns-6
-returns-6 c = add-over (inOrder (c .before .before)) (omega (arith, c .before .if5 .left)) (omega (arith, c .if6 .taken))
+returns-6 c = add-one-value (inOrder (counted (c .before))) (notFull (c .before)) (c .if6 .taken)
 
 add-if7 : tie.Need-add-if7
-add-if7 c = search needs
+add-if7 c =
+    let f = fits (c .before) in
+    search needs
 
 add-if7-2 : tie.Need-add-if7-2
-add-if7-2 c = search needs
+add-if7-2 c =
+    let f = fits (c .before) in
+    search needs
 
 add-if7-3 : tie.Need-add-if7-3
-add-if7-3 c = search needs
+add-if7-3 c =
+    let f = fits (c .before) in
+    search needs
 
 same-length-4 : tie.Need-same-length-4
 same-length-4 c = search needs
 
 returns-7 : tie.Need-returns-7
 returns-7 c =
-    add-short (inOrder (c .before .before .before)) (omega (arith, c .before .before .if5 .left)) (omega (arith, c .before .if6 .left))
-    (omega (arith, c .if7 .taken))
+    let e = c .before .before in
+    add-short (inOrder (counted e)) (notFull e) (c .before .if6 .left) (omega (arith, c .if7 .taken))
 
 append-requires : tie.Need-append-requires
-append-requires c κs = search needs
-
-add-t19 : tie.Need-add-t19
-add-t19 c = search needs
+append-requires c κs =
+    let f = fits (c .before .before .before) in
+    search needs
 
 add-t21 : tie.Need-add-t21
 add-t21 c = search needs
+
+add-t22 : tie.Need-add-t22
+add-t22 c = search needs
 
 same-length-5 : tie.Need-same-length-5
 same-length-5 c = search needs
 
 returns-8 : tie.Need-returns-8
 returns-8 c =
-    let fits = c .before .before .before .before in
-    add-done (inOrder (fits .before .before .before)) (omega (arith, fits .before .before .if5 .left)) (omega (arith, fits .before .if6 .left))
-    (omega (arith, fits .if7 .left)) (c .before .before .append .ensures)
+    let room = c .before .before .before .before in
+    let e = room .before .before in
+    add-done (inOrder (counted e)) (notFull e) (room .before .if6 .left) (omega (arith, room .if7 .left)) (c .before .before .append .ensures)
 
 pub add-pattern-spec : {M : Type 1} → statement M
 add-pattern-spec =
@@ -139,9 +171,9 @@ add-pattern-spec =
     wide-requires
     slice-read-wide-2
     wide-requires-2
+    is-full-requires
     same-length-2
     returns-5
-    add-if6
     same-length-3
     returns-6
     add-if7
@@ -150,7 +182,7 @@ add-pattern-spec =
     same-length-4
     returns-7
     append-requires
-    add-t19
     add-t21
+    add-t22
     same-length-5
     returns-8)

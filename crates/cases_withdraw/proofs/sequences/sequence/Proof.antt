@@ -12,17 +12,17 @@ abbrev μ-loop : tie.MeasureT-loop
 next-requires : tie.Need-next-requires Inv-loop μ-loop
 next-requires c κs = search needs
 
-slice-aggregate-empty-set : tie.Need-slice-aggregate-empty-set Inv-loop μ-loop
-slice-aggregate-empty-set c = search needs
+slice-aggregate-begin : tie.Need-slice-aggregate-begin Inv-loop μ-loop
+slice-aggregate-begin c = search needs
 
-empty-set-requires : tie.Need-empty-set-requires Inv-loop μ-loop
-empty-set-requires c κs = search needs
+slice-aggregate-begin-2 : tie.Need-slice-aggregate-begin-2 Inv-loop μ-loop
+slice-aggregate-begin-2 c = search needs
 
-slice-aggregate-empty-set-2 : tie.Need-slice-aggregate-empty-set-2 Inv-loop μ-loop
-slice-aggregate-empty-set-2 c = search needs
+stored-patterns-requires : tie.Need-stored-patterns-requires Inv-loop μ-loop
+stored-patterns-requires c κs = search needs
 
-empty-set-requires-2 : tie.Need-empty-set-requires-2 Inv-loop μ-loop
-empty-set-requires-2 c κs = search needs
+begin-requires : tie.Need-begin-requires Inv-loop μ-loop
+begin-requires c κs = search needs
 
 loop-holds : tie.Need-loop-holds Inv-loop μ-loop
 loop-holds c = search needs
@@ -64,10 +64,10 @@ sequence-spec =
     Inv-loop
     μ-loop
     next-requires
-    slice-aggregate-empty-set
-    empty-set-requires
-    slice-aggregate-empty-set-2
-    empty-set-requires-2
+    slice-aggregate-begin
+    slice-aggregate-begin-2
+    stored-patterns-requires
+    begin-requires
     loop-holds
     next-requires-2
     slice-aggregate-take-step

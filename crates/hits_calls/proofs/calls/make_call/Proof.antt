@@ -2,7 +2,8 @@
 -- the text of these is written (`Text`).
 use Rattle.lists.proofs.Prelude.{_∙_, ap, sym, refl, length-take, arith, needs}
 use Rattle.hits_calls.specs.Called.{summary}
-use Rattle.hits_calls.proofs.Text.{accepted-good, told-count, told-fit, told-below, told-lines, called-accepted, called-refused, called-fits}
+use Rattle.entries.proofs.Stream.{accepted-set}
+use Rattle.hits_calls.proofs.Text.{told-count, told-fit, told-below, told-lines, called-accepted, called-refused, called-fits}
 use Rattle.hits_calls.proofs.calls.make_call.Statement.{statement}
 use Rattle.hits_calls.proofs.calls.make_call.Tie as tie
 
@@ -33,7 +34,7 @@ write-lines-requires c κs =
     let room = s .before .before .smaller .ensures in
     let e = ap (λ z. z .0) (sym (E .0)) ∙ sym (ap (λ z. z .0) t) ∙ c .before .before .if1 .taken in
     let n = told-count _ _ _ _ _ _ e (E .1 .1) (search needs) _ _ _ _ (t ∙ ap summary (E .0)) in (
-      accepted-good _ _ _ _ _ _ e (E .1 .1) (search needs),
+      accepted-set _ _ _ _ _ e,
       (
         (told-fit _ _ _ _ _ _ e (E .1 .1) (search needs) _ _ n, told-below _ _ _ _ _ _ e (E .1 .1) (search needs) _ _ n),
         told-lines _ _ _ _ _ _ e (E .1 .1) (search needs) _ (S .args .out .now) n (simp length-take (omega (arith, room .2))),
