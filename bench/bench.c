@@ -15,6 +15,7 @@ enum { LONGEST = 1048576, HIT_WORDS = 1 << 27 };
 
 static int32_t text[LONGEST];
 static uint32_t *hits;
+static int32_t *rises;
 static uint32_t set[8192], automaton[16 * 4097];
 static Patterns patterns;
 static uint64_t seed;
@@ -106,7 +107,8 @@ __attribute__((noinline)) size_t run_engine(int engine, size_t n)
         size_t at = 0, found = 0;
         attempts = 0;
         while (at < n) {
-            FinderStreamed s = finder_stream_search(set, 8192, automaton, 16 * 4097, state, text + at, n - at, hits + 2 * found, HIT_WORDS - 2 * found);
+            FinderStreamed s = finder_stream_search(set, 8192, automaton, 16 * 4097, state, text + at, n - at, hits + 2 * found, HIT_WORDS - 2 * found,
+                                                    rises + found, HIT_WORDS / 2 - found);
             if (s.refusal)
                 exit(1);
             state = s.state;
@@ -117,16 +119,16 @@ __attribute__((noinline)) size_t run_engine(int engine, size_t n)
         return found;
     }
     case 1: {
-        FinderCounts f = finder_filter_search(set, 8192, text, n, hits, HIT_WORDS);
+        FinderCounts f = finder_filter_search(set, 8192, text, n, hits, HIT_WORDS, rises, HIT_WORDS / 2);
         if (f.refusal)
             exit(1);
         return f.first;
     }
-    case 2: return plain_stream(plain_a, text, n, hits);
-    case 3: return plain_filtered(plain_f, text, n, hits);
-    case 4: return plain_windows(plain_f, text, n, hits);
+    case 2: return plain_stream(plain_a, text, n, hits, rises);
+    case 3: return plain_filtered(plain_f, text, n, hits, rises);
+    case 4: return plain_windows(plain_f, text, n, hits, rises);
     default: {
-        FinderCounts f = finder_filter_search(set, 8192, text, n, hits, tight);
+        FinderCounts f = finder_filter_search(set, 8192, text, n, hits, tight, rises, tight / 2);
         if (f.refusal)
             exit(1);
         return f.first;
@@ -134,11 +136,16 @@ __attribute__((noinline)) size_t run_engine(int engine, size_t n)
     }
 }
 
+/* A sum over the list, which is then overwritten, so that the next engine must write its own. */
 static uint64_t sum_of(size_t found)
 {
     uint64_t sum = found;
     for (size_t i = 0; i < 2 * found; i++)
         sum = (sum ^ hits[i]) * 1099511628211ull;
+    for (size_t i = 0; i < found; i++)
+        sum = (sum ^ (uint32_t)rises[i]) * 1099511628211ull;
+    memset(hits, 255, 2 * found * sizeof *hits);
+    memset(rises, 255, found * sizeof *rises);
     return sum;
 }
 
@@ -169,7 +176,7 @@ static size_t best_times(double *ns)
                 sum = sum_of(found);
                 tight = 2 * found;
             } else if (sum_of(found) != sum)
-                fprintf(stderr, "\nengine %d lists other hits\n", e);
+                fprintf(stderr, "\nengine %d lists other hits or rises\n", e);
         }
     return found;
 }
@@ -178,7 +185,7 @@ static double call_cost(void)
 {
     double t = seconds();
     for (int i = 0; i < 50; i++)
-        if (finder_stream_search(set, 8192, automaton, 16 * 4097, finder_new_search(), text, 0, hits, 128).refusal)
+        if (finder_stream_search(set, 8192, automaton, 16 * 4097, finder_new_search(), text, 0, hits, 128, rises, 64).refusal)
             exit(1);
     return (seconds() - t) * 1e6 / 50;
 }
@@ -236,7 +243,8 @@ static void first_times(int s)
 int main(int argc, char **argv)
 {
     hits = malloc((size_t)HIT_WORDS * sizeof *hits);
-    if (!hits)
+    rises = malloc((size_t)HIT_WORDS / 2 * sizeof *rises);
+    if (!hits || !rises)
         return 1;
     if (argc == 6 && !strcmp(argv[1], "count")) {
         size_t n = (size_t)atol(argv[5]);

@@ -6,6 +6,8 @@
  * A text value of -2,147,483,648 (FINDER_GAP) is a gap: the recorder had no sample there. A window that holds a gap has no tree, so
  * it is no hit of any pattern; a pattern holds none.
  *
+ * The rise over a hit is the last value of its window minus the first, clamped to the signed 32-bit range.
+ *
  * No function asks anything of its caller but that a pointer and its length name an array that may be read (const) or written:
  * each answers, or refuses by number and then changes no word and counts nothing. An array of length 0 may be passed with any
  * pointer that is not null and aligned. Arrays that one call is lent must not overlap. Nothing is allocated, nothing is kept
@@ -22,7 +24,7 @@
  *    7  the automaton array does not begin with the words that finder_build_automaton writes for the set
  *    8  the state is none that a search may go on from
  *    9  the values bring the text past 1,048,576
- *   10  the lent array is too short (each function says for what)
+ *   10  a lent array is too short (each function says for what)
  *   11  the list of a filter search does not fit its array
  *   12  a catalogue is involved and the distance list is longer than 10
  *   13  a pattern given as values holds a gap
@@ -69,20 +71,33 @@ typedef struct {
     size_t second;
 } FinderCounts;
 
-/* A search between two calls: the values taken, the automaton's node, and the open minima (places among the last 256 values
- * that have no gap and no smaller value after them) in a ring that starts at slot `first`. Make one with finder_new_search and hand
- * on what each call returns; a state may be copied, stored and loaded as bytes on one machine. */
+/* A search between two calls.
+ *
+ * taken     the values taken
+ * node      the automaton's node
+ * minima    how many open minima there are: places among the last 256 values that have no gap and no smaller value after them
+ * first     modulo 256, the slot of the oldest of them; an accepted call hands it back below 256
+ * places    from that slot on, and on from slot 0 behind slot 255, the places of the open minima, oldest first
+ * values    in the same slots their values
+ * recent    the last 256 values taken, that of place p in slot p % 256, a gap as it is; 0 where no value is kept yet
+ *
+ * Make one with finder_new_search and hand on what each call returns. A state has 3,088 bytes and alignment 4, and every byte
+ * belongs to a field: there is no padding. So it may be copied, stored and loaded as bytes where numbers have the same byte order,
+ * and two states are equal exactly if memcmp finds their bytes equal. Any 3,088 bytes are some state; refusal 8 finds those that no
+ * search may go on from, among them those in which a slot of `recent` that is not yet filled is not 0, or in which an open minimum
+ * has another value than the one kept for its place. */
 typedef struct {
     uint32_t taken;
     uint32_t node;
     uint32_t minima;
-    uint8_t first;
+    uint32_t first;
     uint32_t places[256];
     int32_t values[256];
+    int32_t recent[256];
 } FinderState;
 
 /* The state after the call, or, where it is refused, the state given; refusal; 1 where the values ended and 0 where the call is
- * full; values taken, hits written and attempts made by this call. */
+ * full; values taken, hits written and attempts made by this call. There is no padding. */
 typedef struct {
     FinderState state;
     uint32_t refusal;
@@ -92,7 +107,34 @@ typedef struct {
     size_t attempts;
 } FinderStreamed;
 
-/* Refusal; 1 where there is a hit and 0 where there is none; the hit's last place and pattern number; the values read. */
+/* The layout of the two, as the library has it. */
+#ifdef __cplusplus
+#define FINDER_SIZE(type, size, alignment) static_assert(sizeof(type) == (size) && alignof(type) == (alignment), "size of " #type)
+#define FINDER_FIELD(type, field, offset) static_assert(offsetof(type, field) == (offset), "place of " #type "." #field)
+#else
+#define FINDER_SIZE(type, size, alignment) _Static_assert(sizeof(type) == (size) && _Alignof(type) == (alignment), "size of " #type)
+#define FINDER_FIELD(type, field, offset) _Static_assert(offsetof(type, field) == (offset), "place of " #type "." #field)
+#endif
+FINDER_SIZE(FinderState, 3088, 4);
+FINDER_FIELD(FinderState, taken, 0);
+FINDER_FIELD(FinderState, node, 4);
+FINDER_FIELD(FinderState, minima, 8);
+FINDER_FIELD(FinderState, first, 12);
+FINDER_FIELD(FinderState, places, 16);
+FINDER_FIELD(FinderState, values, 1040);
+FINDER_FIELD(FinderState, recent, 2064);
+FINDER_SIZE(FinderStreamed, 3120, 8);
+FINDER_FIELD(FinderStreamed, state, 0);
+FINDER_FIELD(FinderStreamed, refusal, 3088);
+FINDER_FIELD(FinderStreamed, ended, 3092);
+FINDER_FIELD(FinderStreamed, taken, 3096);
+FINDER_FIELD(FinderStreamed, hits, 3104);
+FINDER_FIELD(FinderStreamed, attempts, 3112);
+#undef FINDER_SIZE
+#undef FINDER_FIELD
+
+/* Refusal; 1 where there is a hit and 0 where there is none; the hit's last place and pattern number; the values read. No rise is
+ * told. */
 typedef struct {
     uint32_t refusal;
     uint32_t found;
@@ -158,11 +200,14 @@ FinderState finder_new_search(void);
 
 /* Takes values until they end, or until fewer than two words a pattern are free in the hit array and values are left (full: call
  * again with the rest and the state returned). Writes the hits that end at the values taken to the front of the hit array: two
- * words each, the last place in the whole text and the pattern number; by place, longer pattern first, then lower number. Words
- * behind them are as they were. A gap is taken as a value and makes no attempt; after it the search begins anew. Refuses 1, 5,
- * 15, 7, 8, 9, 10 (hits_room < 2 * patterns). */
+ * words each, the last place in the whole text and the pattern number; by place, longer pattern first, then lower number. Writes
+ * the rises over them to the front of the second array: rises[i] beside hits[2 * i] and hits[2 * i + 1]. What is behind them in
+ * either array is as it was. A gap is taken as a value and makes no attempt; after it the search begins anew. The first value of a
+ * window that was taken by an earlier call is the one that the state keeps for its place. Refuses 1, 5, 15, 7, 8, 9, 10 (hits_room
+ * < 2 * patterns, or rises_room below half of hits_room: to 5 hit words belong 3 rises). */
 FinderStreamed finder_stream_search(const uint32_t *set, size_t set_words, const uint32_t *automaton, size_t automaton_words,
-                                    FinderState state, const int32_t *values, size_t n, uint32_t *hits, size_t hits_room);
+                                    FinderState state, const int32_t *values, size_t n, uint32_t *hits, size_t hits_room,
+                                    int32_t *rises, size_t rises_room);
 
 /* Tells the first hit of a whole text, the first of the list that the searches write: by last place, longer pattern first, then
  * lower number. Reads up to and with its last place, and nothing behind it; where there is no hit, all. Writes nothing. Refuses 1,
@@ -170,12 +215,13 @@ FinderStreamed finder_stream_search(const uint32_t *set, size_t set_words, const
 FinderFirstHit finder_first_hit(const uint32_t *set, size_t set_words, const uint32_t *automaton, size_t automaton_words,
                                 const int32_t *text, size_t n);
 
-/* Writes all hits of a whole text, the same list; tells the hits (first) and the candidates (second). A candidate is a pair of a
- * pattern and a window within the text, without a gap, whose last b values fall at the same places (they have one fingerprint),
- * where b is the length of the shortest pattern, 17 at most. Every hit is a candidate, and not every candidate need be checked.
- * Refuses 1, 5, 15, 9, 11, and has then written nothing. */
+/* Writes all hits of a whole text, the same list, and the rises over them, as the stream search does; tells the hits (first) and
+ * the candidates (second). A candidate is a pair of a pattern and a window within the text, without a gap, whose last b values fall
+ * at the same places (they have one fingerprint), where b is the length of the shortest pattern, 17 at most. Every hit is a
+ * candidate, and not every candidate need be checked. What is behind the hits and the rises is as it was. Refuses 1, 5, 15, 9, 10
+ * (rises_room below half of hits_room; no rises belong to no hit words), 11, and has then written nothing. */
 FinderCounts finder_filter_search(const uint32_t *set, size_t set_words, const int32_t *text, size_t n, uint32_t *hits,
-                                  size_t hits_room);
+                                  size_t hits_room, int32_t *rises, size_t rises_room);
 
 #ifdef __cplusplus
 }

@@ -1,6 +1,6 @@
 /* Sizes that no test program of the gate holds, tried through the C interface: texts of 1,048,576 values, full sets, and arrays
- * that are far longer than what is written to them. Hits of both searches and the first hit are compared with a plain listing, window
- * by window, and the first hit is looked for where nothing behind it can be read.
+ * that are far longer than what is written to them. Hits of both searches, the rises over them and the first hit are compared with a
+ * plain listing, window by window, and the first hit is looked for where nothing behind it can be read.
  * Prints how many checks there were and how many of them went wrong. */
 #include <stdio.h>
 #include <stdlib.h>
@@ -12,6 +12,7 @@
 
 #define LONGEST 1048576u
 #define BEFORE 4000000007u
+#define RISE_BEFORE (-1234567891)
 #define GAP INT32_MIN
 
 static unsigned checks, wrong;
@@ -49,6 +50,59 @@ static size_t held(const uint32_t *words, size_t from, size_t n)
     return from;
 }
 
+/* ---- lists of hits */
+
+/* A hit array of so many words, and a second array with one number for two of them. */
+typedef struct {
+    size_t room;
+    uint32_t *hits;
+    int32_t *rises;
+} List;
+
+static size_t half(size_t room)
+{
+    return room - room / 2;
+}
+
+static List new_list(size_t room)
+{
+    List l = {room, malloc((room + 1) * sizeof *l.hits), malloc((half(room) + 1) * sizeof *l.rises)};
+    if (!l.hits || !l.rises)
+        exit(2);
+    return l;
+}
+
+static void free_list(List l)
+{
+    free(l.hits);
+    free(l.rises);
+}
+
+static void fill_list(List l)
+{
+    fill(l.hits, l.room);
+    for (size_t i = 0; i < half(l.room); i++)
+        l.rises[i] = RISE_BEFORE;
+}
+
+/* What is behind so many hits, in both arrays, is as it was. */
+static int held_behind(List l, size_t count)
+{
+    size_t i = count;
+    while (i < half(l.room) && l.rises[i] == RISE_BEFORE)
+        i++;
+    return i == half(l.room) && held(l.hits, 2 * count, l.room) == l.room;
+}
+
+/* The first hits of a list are those of another from one on. */
+static int same_hits(List l, List other, size_t from, size_t count)
+{
+    return memcmp(l.hits, other.hits + 2 * from, 2 * count * sizeof *l.hits) == 0
+        && memcmp(l.rises, other.rises + from, count * sizeof *l.rises) == 0;
+}
+
+/* ---- values */
+
 /* Values with many ties, gaps and the lowest and the highest sample among them. */
 static void fill_values(int32_t *values, size_t n)
 {
@@ -85,8 +139,15 @@ static int has_distances(const int32_t *window, const uint32_t *distances, size_
     return 1;
 }
 
+/* The last value of a window minus the first, or the nearest number of 32 bits. */
+static int32_t rise(const int32_t *window, size_t n)
+{
+    int64_t risen = (int64_t)window[n - 1] - window[0];
+    return risen > INT32_MAX ? INT32_MAX : risen < INT32_MIN ? INT32_MIN : (int32_t)risen;
+}
+
 /* The hits of a good set: by place, longer pattern first, then lower number; how many they are. */
-static size_t list_plainly(const uint32_t *set, const int32_t *text, size_t n, uint32_t *out)
+static size_t list_plainly(const uint32_t *set, const int32_t *text, size_t n, List out)
 {
     uint32_t k = set[0];
     size_t count = 0;
@@ -94,8 +155,9 @@ static size_t list_plainly(const uint32_t *set, const int32_t *text, size_t n, u
         for (uint32_t m = 256; m > 0; m--)
             for (uint32_t j = 0; j < k; j++)
                 if (set[3 + j] - set[2 + j] == m && m <= i + 1 && has_distances(text + (i + 1 - m), set + 3 + k + set[2 + j], m)) {
-                    out[2 * count] = (uint32_t)i;
-                    out[2 * count + 1] = j;
+                    out.hits[2 * count] = (uint32_t)i;
+                    out.hits[2 * count + 1] = j;
+                    out.rises[count] = rise(text + (i + 1 - m), m);
                     count++;
                 }
     return count;
@@ -103,21 +165,24 @@ static size_t list_plainly(const uint32_t *set, const int32_t *text, size_t n, u
 
 /* ---- runs */
 
+/* Calls over a hit array of so many words, until the text ends; the second array has no number more than it must. */
 static FinderState after(const uint32_t *set, size_t set_words, const uint32_t *automaton, size_t automaton_words, const int32_t *text,
-                         size_t n, size_t room, uint32_t *out, size_t *count, int *good)
+                         size_t n, size_t room, List out, size_t *count, int *good)
 {
     FinderState state = finder_new_search();
-    uint32_t *hits = malloc(room * sizeof *hits);
+    List hits = new_list(room);
     *count = 0;
     *good = 1;
     while (*good) {
-        fill(hits, room);
-        FinderStreamed s = finder_stream_search(set, set_words, automaton, automaton_words, state, text + state.taken, n - state.taken, hits, room);
-        if (s.refusal != 0 || s.state.taken != state.taken + s.taken || held(hits, 2 * s.hits, room) != room)
+        fill_list(hits);
+        FinderStreamed s = finder_stream_search(set, set_words, automaton, automaton_words, state, text + state.taken, n - state.taken,
+                                                hits.hits, room, hits.rises, half(room));
+        if (s.refusal != 0 || s.state.taken != state.taken + s.taken || !held_behind(hits, s.hits))
             *good = 0;
         if (!s.ended && s.taken == 0)
             *good = 0;
-        memcpy(out + 2 * *count, hits, 2 * s.hits * sizeof *hits);
+        memcpy(out.hits + 2 * *count, hits.hits, 2 * s.hits * sizeof *hits.hits);
+        memcpy(out.rises + *count, hits.rises, s.hits * sizeof *hits.rises);
         *count += s.hits;
         state = s.state;
         if (s.ended)
@@ -125,32 +190,33 @@ static FinderState after(const uint32_t *set, size_t set_words, const uint32_t *
     }
     if (state.taken != n)
         *good = 0;
-    free(hits);
+    free_list(hits);
     return state;
 }
 
+/* States have no padding. */
 static int same_state(const FinderState *a, const FinderState *b)
 {
-    return a->taken == b->taken && a->node == b->node && a->minima == b->minima && a->first == b->first
-        && memcmp(a->places, b->places, sizeof a->places) == 0 && memcmp(a->values, b->values, sizeof a->values) == 0;
+    return memcmp(a, b, sizeof *a) == 0;
 }
 
-/* A call with so many values is refused by the number, with nothing counted, the state as it was and no word written. */
+/* A call with so many values and arrays of so many words is refused by the number, with nothing counted, the state as it was and no
+ * word written. */
 static int refuses(const uint32_t *set, size_t set_words, const uint32_t *automaton, size_t automaton_words, FinderState state,
-                   const int32_t *values, size_t n, uint32_t *hits, size_t room, uint32_t number)
+                   const int32_t *values, size_t n, List out, size_t room, size_t rises, uint32_t number)
 {
-    fill(hits, room);
-    FinderStreamed s = finder_stream_search(set, set_words, automaton, automaton_words, state, values, n, hits, room);
+    fill_list(out);
+    FinderStreamed s = finder_stream_search(set, set_words, automaton, automaton_words, state, values, n, out.hits, room, out.rises, rises);
     return s.refusal == number && s.ended == 0 && s.taken == 0 && s.hits == 0 && s.attempts == 0 && same_state(&s.state, &state)
-        && held(hits, 0, room) == room;
+        && held_behind(out, 0);
 }
 
-static int filter_refuses(const uint32_t *set, size_t set_words, const int32_t *text, size_t n, uint32_t *out, size_t lent, size_t room,
+static int filter_refuses(const uint32_t *set, size_t set_words, const int32_t *text, size_t n, List out, size_t room, size_t rises,
                           uint32_t number)
 {
-    fill(out, room);
-    FinderCounts f = finder_filter_search(set, set_words, text, n, out, lent);
-    return f.refusal == number && f.first == 0 && f.second == 0 && held(out, 0, room) == room;
+    fill_list(out);
+    FinderCounts f = finder_filter_search(set, set_words, text, n, out.hits, room, out.rises, rises);
+    return f.refusal == number && f.first == 0 && f.second == 0 && held_behind(out, 0);
 }
 
 /* The first hit of the text is the first of the list, or none, and the values read are those up to it, or all. */
@@ -179,7 +245,7 @@ static void whole_text(void)
     size_t room = 4u * LONGEST, count, listed;
     uint32_t set[SET], automaton[AUTOMATON];
     int32_t *text = malloc((LONGEST + 1) * sizeof *text);
-    uint32_t *plain = malloc(room * sizeof *plain), *run = malloc(room * sizeof *run), *out = malloc(room * sizeof *out);
+    List plain = new_list(room), run = new_list(room), out = new_list(room), few = new_list(64);
     int good;
 
     fill(set, SET);
@@ -196,25 +262,34 @@ static void whole_text(void)
     check(listed > 100000 && 2 * listed + 8 <= room, "the plain listing has many hits, and room");
     FinderState last = after(set, SET, automaton, AUTOMATON, text, LONGEST, 6, run, &count, &good);
     check(good, "1,048,576 values in calls over a hit array of 2 words a pattern");
-    check(count == listed && memcmp(run, plain, 2 * listed * sizeof *plain) == 0, "their hits are the plain listing");
-    check(last.taken == LONGEST, "all values are taken");
+    check(count == listed && same_hits(run, plain, 0, listed), "their hits and rises are the plain listing");
+    check(last.taken == LONGEST && last.first < 256, "all values are taken");
+    good = 1;
+    for (size_t p = LONGEST - 256; p < LONGEST; p++)
+        good = good && last.recent[p % 256] == text[p];
+    check(good, "the last 256 values are kept, by place");
 
-    fill(out, room);
-    FinderCounts f = finder_filter_search(set, SET, text, LONGEST, out, room);
+    fill_list(out);
+    FinderCounts f = finder_filter_search(set, SET, text, LONGEST, out.hits, room, out.rises, half(room));
     check(f.refusal == 0 && f.first == listed && f.second >= listed, "a filter search answers 1,048,576 values");
-    check(memcmp(out, plain, 2 * listed * sizeof *plain) == 0, "its hits are the plain listing");
-    check(held(out, 2 * listed, room) == room, "words behind its hits keep their values");
-    fill(out, room);
-    f = finder_filter_search(set, SET, text, LONGEST, out, 2 * listed);
-    check(f.refusal == 0 && memcmp(out, plain, 2 * listed * sizeof *plain) == 0, "it answers in an array of exactly its hits");
-    check(held(out, 2 * listed, room) == room, "and writes nothing behind it");
-    check(filter_refuses(set, SET, text, LONGEST, out, 2 * listed - 1, room, 11), "an array one word too short is 11");
-    check(filter_refuses(set, SET, text, LONGEST, out, 0, room, 11), "an array of no words is 11");
-    check(filter_refuses(set, SET, text, LONGEST + 1, out, room, room, 9), "1,048,577 values are 9");
-    check(filter_refuses(set, SET, text, LONGEST + 1, out, 0, room, 9), "and 9 before 11");
-    check(filter_refuses(one, 5, text, LONGEST + 1, out, 0, room, 15), "a set that holds a pattern of one value is 15, before 9");
+    check(same_hits(out, plain, 0, listed), "its hits and rises are the plain listing");
+    check(held_behind(out, listed), "words behind its hits and rises keep their values");
+    fill_list(out);
+    f = finder_filter_search(set, SET, text, LONGEST, out.hits, 2 * listed, out.rises, listed);
+    check(f.refusal == 0 && same_hits(out, plain, 0, listed), "it answers in arrays of exactly its hits");
+    check(held_behind(out, listed), "and writes nothing behind them");
+    check(filter_refuses(set, SET, text, LONGEST, out, 2 * listed - 1, listed, 11), "a hit array one word too short is 11");
+    check(filter_refuses(set, SET, text, LONGEST, out, 2 * listed, listed - 1, 10), "a second array one number too short is 10");
+    check(filter_refuses(set, SET, text, LONGEST, out, 2 * listed - 1, listed - 1, 10), "and 10 before 11, where both are");
+    check(filter_refuses(set, SET, text, LONGEST, out, 2 * listed - 2, listed - 1, 11), "and 11, where the second array has half of the hit array");
+    check(filter_refuses(set, SET, text, LONGEST, out, 1, 0, 10), "a hit array of one word with no rise is 10");
+    check(filter_refuses(set, SET, text, LONGEST, out, 0, 0, 11), "arrays of no words are 11");
+    check(filter_refuses(set, SET, text, LONGEST + 1, out, room, half(room), 9), "1,048,577 values are 9");
+    check(filter_refuses(set, SET, text, LONGEST + 1, out, 0, 0, 9), "and 9 before 11");
+    check(filter_refuses(set, SET, text, LONGEST + 1, out, room, half(room) - 1, 9), "and 9 before 10");
+    check(filter_refuses(one, 5, text, LONGEST + 1, out, 1, 0, 15), "a set that holds a pattern of one value is 15, before 9");
 
-    check(finds_first(set, SET, automaton, AUTOMATON, text, LONGEST, plain, listed), "the first hit of 1,048,576 values is the plain listing's");
+    check(finds_first(set, SET, automaton, AUTOMATON, text, LONGEST, plain.hits, listed), "the first hit of 1,048,576 values is the plain listing's");
     check(first_refuses(set, SET, automaton, AUTOMATON, text, LONGEST + 1, 9), "1,048,577 values are 9, though a hit is at the front");
     check(first_refuses(set, SET, automaton, AUTOMATON - 1, text, LONGEST + 1, 9), "an automaton array may be longer than the automaton");
     check(first_refuses(set, SET, automaton, built.second - 1, text, LONGEST + 1, 7), "and 7 before 9");
@@ -222,53 +297,62 @@ static void whole_text(void)
     check(first_refuses(one, 4, automaton, 0, text, LONGEST + 1, 5), "and 5 before 15, where a word of it is missing");
     check(first_refuses(set, 4, automaton, 0, text, LONGEST + 1, 5), "and 5 before 7");
 
-    check(refuses(set, SET, automaton, AUTOMATON, finder_new_search(), text, LONGEST + 1, out, 64, 9), "1,048,577 values in a first call are 9");
-    check(refuses(one, 5, automaton, 0, finder_new_search(), text, LONGEST + 1, out, 0, 15), "and 15 over a set that holds a pattern of one value");
+    check(refuses(set, SET, automaton, AUTOMATON, finder_new_search(), text, LONGEST + 1, few, 64, 32, 9), "1,048,577 values in a first call are 9");
+    check(refuses(one, 5, automaton, 0, finder_new_search(), text, LONGEST + 1, few, 0, 0, 15), "and 15 over a set that holds a pattern of one value");
     FinderState part = after(set, SET, automaton, AUTOMATON, text, 1000000, 4096, run, &count, &good);
-    check(good && memcmp(run, plain, 2 * count * sizeof *plain) == 0, "1,000,000 values in calls over a longer hit array");
-    check(refuses(set, SET, automaton, AUTOMATON, part, text, LONGEST - 1000000 + 1, out, 64, 9), "9 counts from the values taken");
-    check(refuses(set, SET, automaton, AUTOMATON, part, text, LONGEST, out, 64, 9), "9 counts all values handed over");
-    fill(out, room);
-    FinderStreamed s = finder_stream_search(set, SET, automaton, AUTOMATON, part, text + 1000000, LONGEST - 1000000, out, room);
+    check(good && same_hits(run, plain, 0, count), "1,000,000 values in calls over a longer hit array");
+    check(refuses(set, SET, automaton, AUTOMATON, part, text, LONGEST - 1000000 + 1, few, 64, 32, 9), "9 counts from the values taken");
+    check(refuses(set, SET, automaton, AUTOMATON, part, text, LONGEST, few, 64, 32, 9), "9 counts all values handed over");
+    fill_list(out);
+    FinderStreamed s = finder_stream_search(set, SET, automaton, AUTOMATON, part, text + 1000000, LONGEST - 1000000, out.hits, room, out.rises,
+                                            half(room));
     check(s.refusal == 0 && s.ended == 1 && s.taken == LONGEST - 1000000 && count + s.hits == listed, "as many values as are left are taken");
-    check(memcmp(out, plain + 2 * count, 2 * s.hits * sizeof *out) == 0 && held(out, 2 * s.hits, room) == room, "their hits are the plain listing's rest");
-    check(same_state(&s.state, &last), "and the state is that after other calls");
+    check(same_hits(out, plain, count, s.hits) && held_behind(out, s.hits), "their hits and rises are the plain listing's rest");
+    check(same_state(&s.state, &last), "and the state is that after other calls, to the last byte");
 
-    fill(out, 6);
-    s = finder_stream_search(set, SET, automaton, AUTOMATON, last, text, 0, out, 6);
-    check(s.refusal == 0 && s.ended == 1 && s.taken == 0 && s.hits == 0 && s.attempts == 0 && same_state(&s.state, &last) && held(out, 0, 6) == 6,
+    fill_list(few);
+    s = finder_stream_search(set, SET, automaton, AUTOMATON, last, text, 0, few.hits, 6, few.rises, 3);
+    check(s.refusal == 0 && s.ended == 1 && s.taken == 0 && s.hits == 0 && s.attempts == 0 && same_state(&s.state, &last) && held_behind(few, 0),
           "with 1,048,576 values taken a call with none ends");
-    check(refuses(set, SET, automaton, AUTOMATON, last, text, 1, out, 6, 9), "and one value more is 9");
-    check(refuses(set, SET, automaton, AUTOMATON, last, text, 0, out, 5, 10), "a hit array one word too short is 10");
+    check(refuses(set, SET, automaton, AUTOMATON, last, text, 1, few, 6, 3, 9), "and one value more is 9");
+    check(refuses(set, SET, automaton, AUTOMATON, last, text, 1, few, 6, 2, 9), "and 9 before 10");
+    check(refuses(set, SET, automaton, AUTOMATON, last, text, 0, few, 5, 3, 10), "a hit array one word too short is 10");
+    check(refuses(set, SET, automaton, AUTOMATON, last, text, 0, few, 6, 2, 10), "a second array one number too short is 10");
+    check(refuses(set, SET, automaton, AUTOMATON, last, text, 0, few, 7, 3, 10), "and so it is for a hit array of one word more");
     FinderState over = last;
     over.taken = LONGEST + 1;
-    check(refuses(set, SET, automaton, AUTOMATON, over, text, 0, out, 6, 8), "a state with 1,048,577 values taken is 8");
+    check(refuses(set, SET, automaton, AUTOMATON, over, text, 0, few, 6, 3, 8), "a state with 1,048,577 values taken is 8");
+    check(refuses(set, SET, automaton, AUTOMATON, over, text, 0, few, 6, 2, 8), "and 8 before 10");
 
     /* values that only fall have no hit of the three patterns */
     for (size_t i = 0; i < LONGEST; i++)
         text[i] = -(int32_t)i;
     check(list_plainly(set, text, 2000, out) == 0, "falling values have no hit");
-    check(finds_first(set, SET, automaton, AUTOMATON, text, LONGEST, plain, 0), "of 1,048,576 values without a hit all are read");
+    check(finds_first(set, SET, automaton, AUTOMATON, text, LONGEST, plain.hits, 0), "of 1,048,576 values without a hit all are read");
     text[LONGEST - 1] = text[LONGEST - 2];
-    plain[0] = LONGEST - 1;
-    plain[1] = 1; /* pattern 2 ends there, too, and is shorter */
-    check(finds_first(set, SET, automaton, AUTOMATON, text, LONGEST, plain, 1), "a hit at the last of 1,048,576 places is found");
-    check(finds_first(set, SET, automaton, AUTOMATON, text, LONGEST - 1, plain, 0), "and is not one of the values before");
+    plain.hits[0] = LONGEST - 1;
+    plain.hits[1] = 1; /* pattern 2 ends there, too, and is shorter */
+    check(finds_first(set, SET, automaton, AUTOMATON, text, LONGEST, plain.hits, 1), "a hit at the last of 1,048,576 places is found");
+    check(finds_first(set, SET, automaton, AUTOMATON, text, LONGEST - 1, plain.hits, 0), "and is not one of the values before");
     free(text);
-    free(plain);
-    free(run);
-    free(out);
+    free_list(plain);
+    free_list(run);
+    free_list(out);
+    free_list(few);
 }
 
 /* Leaves out the hits of pattern j and lowers the numbers above it; tells how many are left. */
-static size_t leave_out(uint32_t *list, size_t listed, uint32_t j)
+static size_t leave_out(List list, size_t listed, uint32_t j)
 {
     size_t left = 0;
-    for (size_t i = 0; i < listed; i++)
-        if (list[2 * i + 1] != j) {
-            list[2 * left] = list[2 * i];
-            list[2 * left++ + 1] = list[2 * i + 1] - (list[2 * i + 1] > j);
-        }
+    for (size_t i = 0; i < listed; i++) {
+        uint32_t number = list.hits[2 * i + 1];
+        if (number == j)
+            continue;
+        list.hits[2 * left] = list.hits[2 * i];
+        list.hits[2 * left + 1] = number - (number > j);
+        list.rises[left++] = list.rises[i];
+    }
     return left;
 }
 
@@ -283,7 +367,7 @@ static void full_set(void)
 {
     enum { USED = 3 + 64 + 4096, SET = 3 * USED, AUTOMATON = 8 * 16 * 4097, TEXT = 20000, ROOM = 8 * 64 * TEXT };
     uint32_t *set = malloc(SET * sizeof *set), *automaton = malloc(AUTOMATON * sizeof *automaton);
-    uint32_t *plain = malloc(ROOM * sizeof *plain), *run = malloc(ROOM * sizeof *run), *out = malloc(ROOM * sizeof *out);
+    List plain = new_list(ROOM), run = new_list(ROOM), out = new_list(ROOM), few = new_list(130);
     int32_t *text = malloc(TEXT * sizeof *text), values[64];
     size_t count, listed;
     int good, added = 1;
@@ -306,11 +390,13 @@ static void full_set(void)
     check(held(set, USED, SET) == SET, "words behind the full set keep their values");
     FinderCounts c = finder_check_set(set, SET);
     check(c.refusal == 0 && c.first == 64 && c.second == 4096, "the full set has 64 patterns and 4,096 distances");
-    memcpy(run, set, SET * sizeof *set);
+    memcpy(run.hits, set, SET * sizeof *set);
     c = finder_add_pattern(set, SET, values, 1);
-    check(c.refusal == 6 && c.first == 0 && c.second == 0 && memcmp(run, set, SET * sizeof *set) == 0, "one of one value more is 6, and the set as it was");
+    check(c.refusal == 6 && c.first == 0 && c.second == 0 && memcmp(run.hits, set, SET * sizeof *set) == 0,
+          "one of one value more is 6, and the set as it was");
     c = finder_add_pattern(set, SET, values, 64);
-    check(c.refusal == 6 && c.first == 0 && c.second == 0 && memcmp(run, set, SET * sizeof *set) == 0, "one pattern more is 6, and the set as it was");
+    check(c.refusal == 6 && c.first == 0 && c.second == 0 && memcmp(run.hits, set, SET * sizeof *set) == 0,
+          "one pattern more is 6, and the set as it was");
 
     c = finder_build_automaton(set, USED, automaton, 16 * 4097 - 1);
     check(c.refusal == 10 && c.first == 0 && c.second == 0 && held(automaton, 0, AUTOMATON) == AUTOMATON, "an automaton array one word too short is 10");
@@ -321,33 +407,38 @@ static void full_set(void)
     listed = list_plainly(set, text, TEXT, plain);
     check(listed >= 56 && 2 * listed <= ROOM, "the plain listing has hits of the windows");
     after(set, USED, automaton, c.second, text, TEXT, 128, run, &count, &good);
-    check(good && count == listed && memcmp(run, plain, 2 * listed * sizeof *plain) == 0, "a stream search over the full set gives the plain listing");
-    fill(out, ROOM);
-    FinderCounts f = finder_filter_search(set, SET, text, TEXT, out, ROOM);
-    check(f.refusal == 0 && f.first == listed && memcmp(out, plain, 2 * listed * sizeof *plain) == 0, "and so does a filter search");
-    check(held(out, 2 * listed, ROOM) == ROOM, "words behind its hits keep their values");
-    check(filter_refuses(set, USED, text, TEXT, out, 2 * listed - 1, ROOM, 11), "one word less is 11");
-    check(finds_first(set, USED, automaton, c.second, text, TEXT, plain, listed), "the first hit over the full set is the plain listing's");
-    check(refuses(set, USED, automaton, c.second, finder_new_search(), text, TEXT, out, 127, 10), "a hit array of 127 words is 10");
-    check(refuses(set, USED, automaton, c.second - 1, finder_new_search(), text, TEXT, out, 128, 7), "an automaton without its last word is 7");
+    check(good && count == listed && same_hits(run, plain, 0, listed), "a stream search over the full set gives the plain listing");
+    fill_list(out);
+    FinderCounts f = finder_filter_search(set, SET, text, TEXT, out.hits, ROOM, out.rises, half(ROOM));
+    check(f.refusal == 0 && f.first == listed && same_hits(out, plain, 0, listed), "and so does a filter search");
+    check(held_behind(out, listed), "words behind its hits and rises keep their values");
+    check(filter_refuses(set, USED, text, TEXT, out, 2 * listed - 1, listed, 11), "one word less is 11");
+    check(filter_refuses(set, USED, text, TEXT, out, 2 * listed - 1, listed - 1, 10), "and one rise less 10");
+    check(finds_first(set, USED, automaton, c.second, text, TEXT, plain.hits, listed), "the first hit over the full set is the plain listing's");
+    check(refuses(set, USED, automaton, c.second, finder_new_search(), text, TEXT, few, 127, 65, 10), "a hit array of 127 words is 10");
+    check(refuses(set, USED, automaton, c.second, finder_new_search(), text, TEXT, few, 128, 63, 10), "63 rises for one of 128 words are 10");
+    check(refuses(set, USED, automaton, c.second, finder_new_search(), text, TEXT, few, 129, 64, 10), "64 rises for one of 129 words are 10");
+    check(refuses(set, USED, automaton, c.second - 1, finder_new_search(), text, TEXT, few, 128, 64, 7), "an automaton without its last word is 7");
+    check(refuses(set, USED, automaton, c.second - 1, finder_new_search(), text, TEXT, few, 128, 0, 7), "and 7 before 10");
 
     size_t left = leave_out(plain, listed, 31);
     FinderCounts w = finder_withdraw_pattern(set, SET, 31);
     check(w.refusal == 0 && w.first == 63 && w.second == 4032, "a pattern of the full set is withdrawn");
     check(zeros(set, USED - 65, USED) && held(set, USED, SET) == SET, "the words no longer used are 0, those behind keep their values");
-    check(left < listed && list_plainly(set, text, TEXT, run) == left && memcmp(run, plain, 2 * left * sizeof *plain) == 0,
+    check(left < listed && list_plainly(set, text, TEXT, run) == left && same_hits(run, plain, 0, left),
           "the plain listing is the one before without its hits");
-    check(refuses(set, SET, automaton, c.second, finder_new_search(), text, TEXT, out, 128, 7), "the automaton of the larger set is 7");
+    check(refuses(set, SET, automaton, c.second, finder_new_search(), text, TEXT, few, 128, 64, 7), "the automaton of the larger set is 7");
     c = finder_build_automaton(set, SET, automaton, AUTOMATON);
     after(set, SET, automaton, c.second, text, TEXT, 126, run, &count, &good);
-    check(good && count == left && memcmp(run, plain, 2 * left * sizeof *plain) == 0, "a stream search gives that list");
-    f = finder_filter_search(set, SET, text, TEXT, out, 2 * left);
-    check(f.refusal == 0 && f.first == left && memcmp(out, plain, 2 * left * sizeof *plain) == 0, "and so does a filter search");
+    check(good && count == left && same_hits(run, plain, 0, left), "a stream search gives that list");
+    f = finder_filter_search(set, SET, text, TEXT, out.hits, 2 * left, out.rises, left);
+    check(f.refusal == 0 && f.first == left && same_hits(out, plain, 0, left), "and so does a filter search");
     free(set);
     free(automaton);
-    free(plain);
-    free(run);
-    free(out);
+    free_list(plain);
+    free_list(run);
+    free_list(out);
+    free_list(few);
     free(text);
 }
 
@@ -355,8 +446,9 @@ static void full_set(void)
 static void only_gaps(void)
 {
     static const int32_t two[2] = {5, 5};
-    uint32_t set[6], automaton[48], hits[2];
+    uint32_t set[6], automaton[48];
     int32_t *text = malloc(LONGEST * sizeof *text);
+    List hits = new_list(2);
 
     for (size_t i = 0; i < LONGEST; i++)
         text[i] = GAP;
@@ -367,18 +459,21 @@ static void only_gaps(void)
     check(c.refusal == 15 && c.first == 0 && c.second == 0 && set[0] == 0, "a pattern of one value is 15");
     finder_add_pattern(set, 6, two, 2);
     finder_build_automaton(set, 6, automaton, 48);
-    fill(hits, 2);
-    FinderStreamed s = finder_stream_search(set, 6, automaton, 48, finder_new_search(), text, LONGEST, hits, 2);
-    check(s.refusal == 0 && s.ended == 1 && s.taken == LONGEST && s.hits == 0 && s.attempts == 0 && held(hits, 0, 2) == 2,
+    fill_list(hits);
+    FinderStreamed s = finder_stream_search(set, 6, automaton, 48, finder_new_search(), text, LONGEST, hits.hits, 2, hits.rises, 1);
+    check(s.refusal == 0 && s.ended == 1 && s.taken == LONGEST && s.hits == 0 && s.attempts == 0 && held_behind(hits, 0),
           "1,048,576 gaps are taken, without hits and attempts");
     FinderState cleared = finder_new_search();
     cleared.taken = LONGEST;
-    check(same_state(&s.state, &cleared), "the state is a new one, with the values taken");
-    check(refuses(set, 6, automaton, 48, s.state, text, 1, hits, 2, 9), "and one gap more is 9");
-    c = finder_filter_search(set, 6, text, LONGEST, hits, 0);
+    for (size_t i = 0; i < 256; i++)
+        cleared.recent[i] = GAP;
+    check(same_state(&s.state, &cleared), "the state is a new one, with the values taken and 256 gaps kept");
+    check(refuses(set, 6, automaton, 48, s.state, text, 1, hits, 2, 1, 9), "and one gap more is 9");
+    c = finder_filter_search(set, 6, text, LONGEST, hits.hits, 0, hits.rises, 0);
     check(c.refusal == 0 && c.first == 0 && c.second == 0, "a filter search has no hit and no candidate");
-    check(finds_first(set, 6, automaton, 48, text, LONGEST, hits, 0), "and there is no first hit");
+    check(finds_first(set, 6, automaton, 48, text, LONGEST, hits.hits, 0), "and there is no first hit");
     free(text);
+    free_list(hits);
 }
 
 /* The first hit ends with the last value of a page, and the pages behind it cannot be read: a search that reads on ends this

@@ -91,6 +91,11 @@ def distances(values):
     return result
 
 
+def rise(recording, last, length):
+    """The rise over the window that ends at a place: its last value minus its first, clamped to the signed 32-bit range."""
+    return max(LOWEST, min(HIGHEST, recording[last] - recording[last + 1 - length]))
+
+
 def samples_from(recording):
     """At each place where the samples up to it begin: behind the last gap."""
     result, begin = [], 0

@@ -17,8 +17,8 @@
 //! for piece in [&[5, 3, 4][..], &[4, 1]] {
 //!     hits.extend(search.feed(piece)?);
 //! }
-//! let expected = [(1, 1), (2, 2), (2, 0), (3, 0), (4, 1)];
-//! assert_eq!(hits, expected.map(|(last, pattern)| Hit { last, pattern }));
+//! let expected = [(1, 1, -2), (2, 2, -1), (2, 0, 1), (3, 0, 0), (4, 1, -3)];
+//! assert_eq!(hits, expected.map(|(last, pattern, rise)| Hit { last, pattern, rise }));
 //!
 //! // The same recording at once.
 //! assert_eq!(set.search(&[5, 3, 4, 4, 1])?.hits, hits);
@@ -37,7 +37,7 @@ use std::fmt;
 /// use finder::{Hit, Refusal, Set, GAP};
 /// let mut set = Set::new();
 /// set.add(&[1, 2])?;
-/// assert_eq!(set.search(&[3, 4, GAP, 6, 7])?.hits, [1, 4].map(|last| Hit { last, pattern: 0 }));
+/// assert_eq!(set.search(&[3, 4, GAP, 6, 8])?.hits, [(1, 1), (4, 2)].map(|(last, rise)| Hit { last, pattern: 0, rise }));
 /// assert_eq!(set.add(&[1, GAP]), Err(Refusal::HoldsGap));
 /// # Ok::<(), Refusal>(())
 /// ```
@@ -101,17 +101,46 @@ impl fmt::Display for Refusal {
 
 impl std::error::Error for Refusal {}
 
-/// A match: the place of the window's last value in the whole text, and the number of the pattern in its set.
+/// A hit: a window of the text that has a pattern's tree, and how far the text rises over it.
+///
+/// ```
+/// use finder::{Hit, Set};
+/// let mut set = Set::new();
+/// set.add(&[3, 1, 2])?;
+/// let dip = set.search(&[900, 100, 250])?.hits;
+/// assert_eq!(dip, [Hit { last: 2, pattern: 0, rise: -650 }]);
+/// let deep = set.search(&[2_000_000_000, -2_000_000_000, -1_000_000_000])?.hits;
+/// assert_eq!(deep, [Hit { last: 2, pattern: 0, rise: i32::MIN }]);
+/// # Ok::<(), finder::Refusal>(())
+/// ```
 #[derive(Clone, Copy, Debug, PartialEq, Eq, Hash, PartialOrd, Ord)]
 pub struct Hit {
-    /// The last place.
+    /// The place of the window's last value in the whole text.
     pub last: u32,
-    /// The pattern's number.
+    /// The pattern's number in its set.
+    pub pattern: u32,
+    /// The last value of the window minus the first, clamped to the signed 32-bit range.
+    pub rise: i32,
+}
+
+/// A hit of which no rise is told.
+#[derive(Clone, Copy, Debug, PartialEq, Eq, Hash, PartialOrd, Ord)]
+pub struct Match {
+    /// The place of the window's last value in the whole text.
+    pub last: u32,
+    /// The pattern's number in its set.
     pub pattern: u32,
 }
 
-fn hits_of(words: &[u32]) -> Vec<Hit> {
-    words.chunks_exact(2).map(|w| Hit { last: w[0], pattern: w[1] }).collect()
+impl From<Hit> for Match {
+    fn from(hit: Hit) -> Match {
+        Match { last: hit.last, pattern: hit.pattern }
+    }
+}
+
+/// Hits from the arrays of a search: two words and a rise each.
+fn hits_of(words: &[u32], rises: &[i32]) -> Vec<Hit> {
+    words.chunks_exact(2).zip(rises).map(|(w, &rise)| Hit { last: w[0], pattern: w[1], rise }).collect()
 }
 
 /// What a call writes to an array as long as the list it is given.
@@ -232,7 +261,7 @@ impl Set {
     /// let mut set = Set::from_words(&[2, 3, 0, 1, 3, 0, 0, 1])?;
     /// assert_eq!(set.search(&[4, 5]), Err(Refusal::OneValue));
     /// set.withdraw(0)?;
-    /// assert_eq!(set.search(&[4, 5])?.hits, [Hit { last: 1, pattern: 0 }]);
+    /// assert_eq!(set.search(&[4, 5])?.hits, [Hit { last: 1, pattern: 0, rise: 1 }]);
     /// assert_eq!(Set::from_words(&[1, 2, 0, 2, 0]), Err(Refusal::BrokenSet));
     /// # Ok::<(), Refusal>(())
     /// ```
@@ -263,7 +292,7 @@ impl Set {
     /// set.add(&[2, 1])?;
     /// set.add(&[1, 2, 3])?;
     /// set.withdraw(0)?;
-    /// assert_eq!(set.search(&[4, 5, 6])?.hits, [Hit { last: 2, pattern: 1 }]);
+    /// assert_eq!(set.search(&[4, 5, 6])?.hits, [Hit { last: 2, pattern: 1, rise: 2 }]);
     /// assert_eq!(set.withdraw(2), Err(Refusal::NoSuchPattern));
     /// # Ok::<(), Refusal>(())
     /// ```
@@ -291,14 +320,15 @@ impl Set {
 
     /// All hits of a whole text: by last place, longer pattern first, then lower number.
     pub fn search(&self, text: &[i32]) -> Result<Found, Refusal> {
-        let mut words = vec![0; 1024];
+        let mut room = 512;
         loop {
-            let answer = raw::filter_search(&self.words, text, &mut words);
+            let (mut words, mut rises) = (vec![0; 2 * room], vec![0; room]);
+            let answer = raw::filter_search(&self.words, text, &mut words, &mut rises);
             match Refusal::check(answer.refusal) {
                 Ok(()) => {
-                    return Ok(Found { hits: hits_of(&words[..2 * answer.first]), candidates: answer.second });
+                    return Ok(Found { hits: hits_of(&words[..2 * answer.first], &rises), candidates: answer.second });
                 }
-                Err(Refusal::ListTooLong) => words.resize(4 * words.len(), 0),
+                Err(Refusal::ListTooLong) => room *= 4,
                 Err(refusal) => return Err(refusal),
             }
         }
@@ -319,13 +349,13 @@ pub struct Found {
 /// over it.
 ///
 /// ```
-/// use finder::{Automaton, FirstHit, Hit, Set};
+/// use finder::{Automaton, FirstHit, Match, Set};
 /// let mut set = Set::new();
 /// set.add(&[1, 2, 3])?;
 /// set.add(&[2, 1])?;
 /// let automaton = Automaton::new(&set)?;
 /// let first = automaton.first_hit(&[4, 5, 5, 3, 6, 7])?;
-/// assert_eq!(first, FirstHit { hit: Some(Hit { last: 2, pattern: 0 }), read: 3 });
+/// assert_eq!(first, FirstHit { hit: Some(Match { last: 2, pattern: 0 }), read: 3 });
 /// assert_eq!(automaton.first_hit(&[4, 5])?, FirstHit { hit: None, read: 2 });
 /// # Ok::<(), finder::Refusal>(())
 /// ```
@@ -339,7 +369,7 @@ pub struct Automaton {
 #[derive(Clone, Copy, Debug, PartialEq, Eq)]
 pub struct FirstHit {
     /// The first of the hits by last place, longer pattern first, then lower number, if there is one.
-    pub hit: Option<Hit>,
+    pub hit: Option<Match>,
     /// The values read: up to and with the hit's last place, or all where there is none.
     pub read: usize,
 }
@@ -354,18 +384,18 @@ impl Automaton {
         Ok(Automaton { set: set.clone(), words })
     }
 
-    /// The first hit of a whole text. Nothing behind its last place is read.
+    /// The first hit of a whole text, without its rise. Nothing behind its last place is read.
     pub fn first_hit(&self, text: &[i32]) -> Result<FirstHit, Refusal> {
         let answer = raw::first_hit(&self.set.words, &self.words, text);
         Refusal::check(answer.refusal)?;
-        let hit = Hit { last: answer.last as u32, pattern: answer.pattern as u32 };
+        let hit = Match { last: answer.last as u32, pattern: answer.pattern as u32 };
         Ok(FirstHit { hit: (answer.found == 1).then_some(hit), read: answer.read })
     }
 
     /// A new search over a text that comes in pieces.
     pub fn search(&self) -> Search {
-        let buffer = vec![0; 2 * self.set.len().max(512)];
-        Search { automaton: self.clone(), state: raw::new_search(), buffer, attempts: 0 }
+        let room = self.set.len().max(512);
+        Search { automaton: self.clone(), state: raw::new_search(), buffer: vec![0; 2 * room], rises: vec![0; room], attempts: 0 }
     }
 }
 
@@ -375,6 +405,7 @@ pub struct Search {
     automaton: Automaton,
     state: raw::State,
     buffer: Vec<u32>,
+    rises: Vec<i32>,
     attempts: u64,
 }
 
@@ -384,16 +415,16 @@ impl Search {
         Ok(Automaton::new(set)?.search())
     }
 
-    /// Takes the next values of the text; the hits that end at them. Places count from the start of the text. A refused call has
-    /// taken none of the values.
+    /// Takes the next values of the text; the hits that end at them, each with its rise, also where its window begins in an earlier
+    /// piece. Places count from the start of the text. A refused call has taken none of the values.
     pub fn feed(&mut self, values: &[i32]) -> Result<Vec<Hit>, Refusal> {
         let mut hits = Vec::new();
         let mut rest = values;
         let Automaton { set, words } = &self.automaton;
         loop {
-            let answer = raw::stream_search(&set.words, words, self.state, rest, &mut self.buffer);
+            let answer = raw::stream_search(&set.words, words, self.state, rest, &mut self.buffer, &mut self.rises);
             Refusal::check(answer.refusal)?;
-            hits.extend(hits_of(&self.buffer[..2 * answer.hits]));
+            hits.extend(hits_of(&self.buffer[..2 * answer.hits], &self.rises));
             self.state = answer.state;
             self.attempts += answer.attempts as u64;
             rest = &rest[answer.taken..];

@@ -1,5 +1,7 @@
 //! The library's functions as C declares them, over slices: each answers, or refuses by number and changes nothing.
 
+use std::mem::{align_of, offset_of, size_of};
+
 /// Refusal, 0 for none, and the words or values at the front of the array that are the result.
 #[derive(Clone, Copy, Debug)]
 #[repr(C)]
@@ -44,7 +46,7 @@ pub struct Counts {
     pub second: usize,
 }
 
-/// A search between two calls.
+/// A search between two calls. Every byte belongs to a field: there is no padding.
 #[derive(Clone, Copy, Debug, PartialEq, Eq)]
 #[repr(C)]
 pub struct State {
@@ -54,12 +56,14 @@ pub struct State {
     pub node: u32,
     /// How many open minima there are.
     pub minima: u32,
-    /// The slot of the oldest.
-    pub first: u8,
+    /// Modulo 256, the slot of the oldest; below 256 where an accepted call hands it back.
+    pub first: u32,
     /// Their places.
     pub places: [u32; 256],
     /// Their values.
     pub values: [i32; 256],
+    /// The last 256 values taken, that of place p in slot p % 256; 0 where no value is kept yet.
+    pub recent: [i32; 256],
 }
 
 /// What a call of the stream search returns.
@@ -79,6 +83,17 @@ pub struct Streamed {
     /// Attempts made.
     pub attempts: usize,
 }
+
+// The layout of the two, as the library has it.
+const _: () = {
+    assert!(size_of::<State>() == 3088 && align_of::<State>() == 4);
+    assert!(offset_of!(State, taken) == 0 && offset_of!(State, node) == 4);
+    assert!(offset_of!(State, minima) == 8 && offset_of!(State, first) == 12);
+    assert!(offset_of!(State, places) == 16 && offset_of!(State, values) == 1040 && offset_of!(State, recent) == 2064);
+    assert!(size_of::<Streamed>() == 3120 && align_of::<Streamed>() == 8);
+    assert!(offset_of!(Streamed, state) == 0 && offset_of!(Streamed, refusal) == 3088 && offset_of!(Streamed, ended) == 3092);
+    assert!(offset_of!(Streamed, taken) == 3096 && offset_of!(Streamed, hits) == 3104 && offset_of!(Streamed, attempts) == 3112);
+};
 
 /// The first hit of a text.
 #[derive(Clone, Copy, Debug)]
@@ -114,13 +129,14 @@ mod c {
         pub fn finder_new_search() -> State;
         pub fn finder_stream_search(
             set: *const u32, n: usize, automaton: *const u32, a: usize, state: State, v: *const i32, m: usize,
-            hits: *mut u32, room: usize,
+            hits: *mut u32, room: usize, rises: *mut i32, rises_room: usize,
         ) -> Streamed;
         pub fn finder_first_hit(
             set: *const u32, n: usize, automaton: *const u32, a: usize, v: *const i32, m: usize,
         ) -> FirstHit;
         pub fn finder_filter_search(
             set: *const u32, n: usize, v: *const i32, m: usize, hits: *mut u32, room: usize,
+            rises: *mut i32, rises_room: usize,
         ) -> Counts;
     }
 }
@@ -193,12 +209,14 @@ pub fn new_search() -> State {
     unsafe { c::finder_new_search() }
 }
 
-/// One call of the stream search.
-pub fn stream_search(set: &[u32], automaton: &[u32], state: State, values: &[i32], hits: &mut [u32]) -> Streamed {
+/// One call of the stream search: the hits, two words each, and one by one the rises over them.
+pub fn stream_search(
+    set: &[u32], automaton: &[u32], state: State, values: &[i32], hits: &mut [u32], rises: &mut [i32],
+) -> Streamed {
     unsafe {
         c::finder_stream_search(
             set.as_ptr(), set.len(), automaton.as_ptr(), automaton.len(), state, values.as_ptr(), values.len(),
-            hits.as_mut_ptr(), hits.len(),
+            hits.as_mut_ptr(), hits.len(), rises.as_mut_ptr(), rises.len(),
         )
     }
 }
@@ -212,11 +230,11 @@ pub fn first_hit(set: &[u32], automaton: &[u32], text: &[i32]) -> FirstHit {
     }
 }
 
-/// A filter search over a whole text.
-pub fn filter_search(set: &[u32], text: &[i32], hits: &mut [u32]) -> Counts {
+/// A filter search over a whole text: the hits, two words each, and one by one the rises over them.
+pub fn filter_search(set: &[u32], text: &[i32], hits: &mut [u32], rises: &mut [i32]) -> Counts {
     unsafe {
         c::finder_filter_search(
-            set.as_ptr(), set.len(), text.as_ptr(), text.len(), hits.as_mut_ptr(), hits.len(),
+            set.as_ptr(), set.len(), text.as_ptr(), text.len(), hits.as_mut_ptr(), hits.len(), rises.as_mut_ptr(), rises.len(),
         )
     }
 }

@@ -67,7 +67,7 @@ toldFirst (FirstHit.NoHit n) = (0, (0, 0, 0, n))
 toldFirst (FirstHit.Refused r) = (number r, (0, 0, 0, 0))
 
 -- ---- The state of a new search. Document 01: A new search starts with nothing taken, rung 0 and
--- no open low.
+-- no open low. Document 02, 2.7: The readings not yet filled are 0.
 
 abbrev pub newSearch : SearchState
-newSearch = record { taken = 0; node = 0; minima = 0; first = 0; places = replicate 256 0; values = replicate 256 (pos 0) }
+newSearch = record { taken = 0; node = 0; minima = 0; first = 0; places = replicate 256 0; values = replicate 256 (pos 0); recent = replicate 256 (pos 0) }

@@ -91,17 +91,19 @@ pub enum FirstHit {
     Refused(Refusal),
 }
 
-// A search state between two calls: the values taken so far, the automaton's node, and the open
-// minima among the last 256 values taken, oldest first, in a ring that starts at slot `first`.
-// Every bit pattern means some state.
+// A search state between two calls: the values taken so far, the automaton's node, the open minima
+// among the last 256 values taken, oldest first, in a ring that starts at slot `first` modulo 256,
+// and the last 256 values taken, that of place p in slot p mod 256. Every byte belongs to a field,
+// and every bit pattern means some state.
 #[repr(C)]
 pub struct SearchState {
     pub taken: u32,
     pub node: u32,
     pub minima: u32,
-    pub first: u8,
+    pub first: u32,
     pub places: [u32; 256],
     pub values: [i32; 256],
+    pub recent: [i32; 256],
 }
 
 // What a call of the stream search hands back.
@@ -111,12 +113,12 @@ pub struct Streamed {
 }
 
 impl SearchState {
-    // How many of the values taken last can be open minima.
+    // How many of the values taken last are kept, and can be open minima.
     pub const WINDOW: usize = 256;
     // How many values a search takes.
     pub const LONGEST: usize = 1048576;
 
-    // A new search: nothing taken, the root, no open minimum.
+    // A new search: nothing taken, the root, no open minimum, and zeros where no value is kept yet.
     pub fn new() -> Self
         ensures { λ r. ⌜ r ≡ newSearch ⌝ }
     {
@@ -127,6 +129,7 @@ impl SearchState {
             first: 0,
             places: [0; 256],
             values: [0; 256],
+            recent: [0; 256],
         }
     }
 }

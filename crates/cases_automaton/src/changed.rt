@@ -25,10 +25,12 @@ fn code(s: Streamed) -> u32 {
     }
 }
 
-// What a call with a new state, no values and a hit array that is long enough answers.
+// What a call with a new state, no values and arrays that are long enough answers.
 fn answer(set: &[u32], automaton: &[u32]) -> u32 {
     let mut hits = [0u32; 128];
-    code(finder::stream_search(set, automaton, SearchState::new(), &[], &mut hits))
+    let mut rises = [0i32; 64];
+    let state = SearchState::new();
+    code(finder::stream_search(set, automaton, state, &[], &mut hits, &mut rises))
 }
 
 // What it answers with the first words of an array.

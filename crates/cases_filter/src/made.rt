@@ -1,13 +1,13 @@
 // Cases made from seeds.
-use crate::run;
 use test_differences::difference::Difference;
 use test_inputs::arrays;
 use test_inputs::texts;
 
 // The search over the first n values of a text is expected to agree with the plain search.
 pub(crate) fn expect_plain_over(set: &[u32], text: &[i32], n: usize) -> Difference {
-    let m = arrays::smaller(n, text.len());
-    run::expect_plain(set, &text[..m])
+    let c = test_filter::expect_plain(set, text, n);
+    let d = c.difference;
+    d
 }
 
 // A text of up to 80 values and 1 to 6 patterns of 2 to most + 2 values, in arrays that are lent.
@@ -40,7 +40,7 @@ fn add_four(set: &mut [u32], text: &[i32], kind: usize, m: usize, seed: usize) {
 fn length_in(number: usize, m: usize, set: &mut [u32], text: &mut [i32]) -> Difference {
     let kind = texts::pick(number, 6);
     let s = texts::fill(text, 80, kind, number);
-    finder::empty_set(set);
+    test_sets::begin(set);
     add_four(set, text, kind, m, s);
     expect_plain_over(set, text, 80)
 }

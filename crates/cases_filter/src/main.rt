@@ -1,12 +1,12 @@
 // Runs the filter search and compares it with the plain search of the crate test_plain, which goes
-// window by window: the list of hits, their number, the candidates and the words behind the list.
-// Each case runs in an array that is just long enough, in a longer one, and in one that is a word
-// too short, where the search must refuse and leave every word. The longer one mostly takes every
-// pattern at every place, so that there is one pass, and two in the one that is just long enough.
-// The cases are made from seeds; those of document 01 are among them.
-mod gap_cases;
+// window by window: the list of hits, the rises over them, their number, the candidates, and what
+// is behind the list and the rises. Each case runs in hit arrays that are just long enough, a few
+// words longer, and much longer, with second arrays that are just long enough for them; and in a
+// hit array that is a word too short and second arrays that are a value too short, where the search
+// must refuse and leave every word and value. The longest mostly takes every pattern at every
+// place, so that there is one pass, and two in the one that is just long enough. The cases are made
+// from seeds; those of document 01 are among them.
 mod made;
-mod run;
 mod worked;
 
 use test_tally::Tally;
@@ -46,49 +46,6 @@ fn large_sets(group: &[u8], n: usize) -> Tally {
     t
 }
 
-// Texts with scattered gaps.
-fn scattered_gaps(group: &[u8], n: usize) -> Tally {
-    let mut t = test_tally::none();
-    let mut i: usize = 0;
-    while i < n {
-        t = test_tally::numbered(t, group, i, gap_cases::scattered_case(i));
-        i += 1;
-    }
-    test_tally::report(group, t);
-    t
-}
-
-// Texts with gaps at a distance from each other.
-fn gaps_apart(group: &[u8], n: usize) -> Tally {
-    let mut t = test_tally::none();
-    let mut i: usize = 0;
-    while i < n {
-        t = test_tally::numbered(t, group, i, gap_cases::apart_case(i));
-        i += 1;
-    }
-    test_tally::report(group, t);
-    t
-}
-
-// Texts with one gap about a window.
-fn gaps_about(group: &[u8], n: usize) -> Tally {
-    let mut t = test_tally::none();
-    let mut i: usize = 0;
-    while i < n {
-        t = test_tally::numbered(t, group, i, gap_cases::about_case(i));
-        i += 1;
-    }
-    test_tally::report(group, t);
-    t
-}
-
-fn all_gaps() -> Tally {
-    let a = scattered_gaps(b"random texts with gaps: ", 2000);
-    let b = gaps_apart(b"gaps at distances: ", 384);
-    let c = gaps_about(b"one gap about a window: ", 108);
-    test_tally::both(a, test_tally::both(b, c))
-}
-
 fn all_shortest() -> Tally {
     let a = shortest_patterns(b"shortest of 2 values: ", 300, 2);
     let b = shortest_patterns(b"shortest of 16 values: ", 300, 16);
@@ -104,11 +61,10 @@ fn main() {
     let d = all_shortest();
     test_tally::report(b"shortest of 2, 16, 17 and 18 values: ", d);
     let e = large_sets(b"sets of 64 patterns: ", 50);
-    let f = all_gaps();
     test_tally::report(
         b"in all ",
         test_tally::both(
-            test_tally::both(test_tally::both(a, b), f),
+            test_tally::both(a, b),
             test_tally::both(c, test_tally::both(d, e)),
         ),
     );

@@ -1,6 +1,5 @@
 // Cases of document 01, flat texts, texts shorter than every pattern, and refusals.
 use crate::made;
-use crate::run;
 use test_differences::difference;
 use test_differences::difference::Difference;
 use test_differences::difference::Part;
@@ -28,10 +27,10 @@ fn expect_hit(set: &[u32], text: &[i32], place: usize) -> Difference {
 }
 
 fn one_hit_in(pattern: &[i32], text: &[i32], place: usize, set: &mut [u32]) -> Difference {
-    finder::empty_set(set);
-    finder::add_pattern(set, pattern);
+    test_sets::begin(set);
+    test_sets::add(set, pattern, pattern.len());
     let hit = expect_hit(set, text, place);
-    difference::first(hit, run::expect_plain(set, text))
+    difference::first(hit, made::expect_plain_over(set, text, text.len()))
 }
 
 // The plain search, and so the search, is expected to have one hit of the one pattern, at the last
@@ -54,7 +53,7 @@ fn other_starred_case() -> Difference {
 }
 
 fn flat_in(n: usize, a: usize, b: usize, flat: &[i32], set: &mut [u32]) -> Difference {
-    finder::empty_set(set);
+    test_sets::begin(set);
     test_sets::add(set, flat, a);
     test_sets::add(set, flat, b);
     test_sets::add(set, flat, a);
@@ -80,11 +79,19 @@ fn flat_cases(group: &[u8]) -> Tally {
     t
 }
 
-// A set is expected to be refused under the number, whatever the array.
+// A set is expected to be refused under the number, in arrays of so many words and values.
+fn refused_in(set: &[u32], number: u64, words: usize, values: usize) -> Difference {
+    let c = test_filter::expect_refused(set, &[3, 1, 2], number, words, values);
+    let d = c.difference;
+    d
+}
+
+// A set is expected to be refused under the number, whatever the arrays.
 fn refused_set(set: &[u32], number: u64) -> Difference {
-    let a = run::expect_refused(set, &[3, 1, 2], number, 0);
-    let b = run::expect_refused(set, &[3, 1, 2], number, 40);
-    difference::first(a, b)
+    let a = refused_in(set, number, 0, 0);
+    let b = refused_in(set, number, 40, 20);
+    let c = refused_in(set, number, 40, 0);
+    difference::first(a, difference::first(b, c))
 }
 
 // The empty set is refused under 1, what is no set under 5, and a set that holds a pattern of one

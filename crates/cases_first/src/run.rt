@@ -29,11 +29,13 @@ pub(crate) fn expect_first(a: FirstHit, list: &[u32], hits: usize, n: usize) -> 
 }
 
 // The first hit is expected to be the first record of a filter search.
-fn expect_filtered(set: &[u32], automaton: &[u32], text: &[i32], list: &mut [u32]) -> Difference {
-    let filtered = finder::filter_search(set, text, list);
+fn expect_filtered(set: &[u32], automaton: &[u32], text: &[i32]) -> Difference {
+    let mut list = [0u32; 4096];
+    let mut rises = [0i32; 2048];
+    let filtered = finder::filter_search(set, text, &mut list, &mut rises);
     let a = finder::first_hit(set, automaton, text);
     match filtered {
-        Filtered::Found(h, _) => expect_first(a, list, h, text.len()),
+        Filtered::Found(h, _) => expect_first(a, &list, h, text.len()),
         Filtered::Refused(r) => expect::refused(0, r),
     }
 }
@@ -111,7 +113,7 @@ fn expect_plain(
 
 fn expect_both(set: &[u32], automaton: &[u32], text: &mut [i32], seed: usize) -> Difference {
     let mut list = [0u32; 4096];
-    let filtered = expect_filtered(set, automaton, text, &mut list);
+    let filtered = expect_filtered(set, automaton, text);
     let plain = expect_plain(set, automaton, text, &mut list, seed);
     difference::first(filtered, plain)
 }

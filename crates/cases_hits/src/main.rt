@@ -1,7 +1,8 @@
 // Runs the inputs of the program `hits` that standard input has through the library code of that
 // program, prints the first of them that give something else than the input says, and counts them:
-// what is read, the number of the refusal, and the text of the hits over several calls. The input
-// is made by tests/hits_inputs.py, which computes what is expected in its own way.
+// what is read, the number of the refusal, the text of the hits over several calls, and the rises
+// over them. The input is made by tests/hits_inputs.py, which computes what is expected in its own
+// way.
 //
 // All numbers are decimal. A case is
 //   the number of pieces, and each piece: how often it stands, how many bytes it has, a space, the

@@ -64,10 +64,11 @@ fn start(want: &[u8]) -> Run {
     }
 }
 
-// The run behind one more call, which printed so far.
-fn behind(s: Step, printed: Printed, attempts: u64) -> Run {
+// The run behind one more call, which printed so far, and in whose rises this differs.
+fn behind(s: Step, printed: Printed, rises: Difference, attempts: u64) -> Run {
     let state = s.state;
-    let d = printed.difference;
+    let before = printed.difference;
+    let d = difference::first(before, rises);
     let accepted = difference::expect(Part::Refusal, 0, s.refused as u64);
     Run {
         state,
@@ -80,6 +81,44 @@ fn behind(s: Step, printed: Printed, attempts: u64) -> Run {
     }
 }
 
+// A call, whose rises are expected to be those over its hits.
+struct Called {
+    step: Step,
+    difference: Difference,
+}
+
+// A call with the values from those taken on.
+fn call_in(
+    set: &[u32],
+    automaton: &[u32],
+    text: &[i32],
+    state: SearchState,
+    hits: &mut [u32],
+    rises: &mut [i32],
+    out: &mut [u8],
+) -> Called {
+    let from = arrays::smaller(arrays::wide(state.taken), text.len());
+    let step = calls::make_call(set, automaton, state, &text[from..], hits, rises, out);
+    Called {
+        step,
+        difference: test_rises::expect(set, text, hits, step.hits, rises),
+    }
+}
+
+// The same with a second array that is just long enough.
+fn call(
+    set: &[u32],
+    automaton: &[u32],
+    text: &[i32],
+    state: SearchState,
+    hits: &mut [u32],
+    out: &mut [u8],
+) -> Called {
+    let mut rises = [test_rises::BEFORE; 4096];
+    let m = arrays::smaller(test_rises::least(hits.len()), 4096);
+    call_in(set, automaton, text, state, hits, &mut rises[..m], out)
+}
+
 // One more call, and the hits that it prints.
 fn next_call(
     set: &[u32],
@@ -90,12 +129,13 @@ fn next_call(
     want: &[u8],
     r: Run,
 ) -> Run {
-    let state = r.state;
     let before = r.printed;
-    let from = arrays::smaller(arrays::wide(state.taken), text.len());
-    let s = calls::make_call(set, automaton, state, &text[from..], hits, out);
-    let printed = pass(want, before, &out[..s.bytes]);
-    behind(s, printed, r.attempts)
+    let c = call(set, automaton, text, r.state, hits, out);
+    let s = c.step;
+    let n = arrays::smaller(s.bytes, out.len());
+    let printed = pass(want, before, &out[..n]);
+    let d = c.difference;
+    behind(s, printed, d, r.attempts)
 }
 
 // The calls until the values end.

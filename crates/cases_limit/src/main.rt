@@ -1,6 +1,6 @@
 // A search that takes all 1,048,576 values that a search takes, by calls over one array of equal
-// values, over the set of the pattern of two equal values; then no value more, which ends, and one
-// value more, which is refused under 9.
+// values, over the set of the pattern of two equal values, all whose rises are 0; then no value
+// more, which ends, and one value more, which is refused under 9, whatever the arrays.
 ghost use Rattle.lists.specs.Prelude.{_≤_};
 use answers::Counts;
 use answers::SearchState;
@@ -50,6 +50,20 @@ fn attempts_from(taken: usize) -> usize {
     if taken == 0 { 8190 } else { 8192 }
 }
 
+// The rises over so many hits are expected to be 0, and nothing else to be written.
+fn expect_zeros(zeros: &[i32], count: usize, rises: &[i32]) -> Difference {
+    let n = arrays::smaller(count, zeros.len());
+    test_rises::expect_front(&zeros[..n], rises)
+}
+
+// The hits of a call and their rises are expected to be those at the places from one on.
+fn expect_written(hits: &[u32], rises: &[i32], from: usize, count: usize) -> Difference {
+    difference::first(
+        expect_places(hits, from, count),
+        expect_zeros(&[0; 4096], count, rises),
+    )
+}
+
 // A call with 4,096 values.
 fn full_call(
     set: &[u32],
@@ -57,10 +71,11 @@ fn full_call(
     s: SearchState,
     text: &[i32],
     hits: &mut [u32],
+    rises: &mut [i32],
 ) -> Reached {
     let from = arrays::wide(s.taken);
     let without = without_hit(from);
-    let r = finder::stream_search(set, automaton, s, text, hits);
+    let r = finder::stream_search(set, automaton, s, text, hits, rises);
     let state = r.state;
     let answer = r.answer;
     let counts = Counts {
@@ -69,16 +84,17 @@ fn full_call(
         attempts: attempts_from(from),
     };
     let ended = expect::streamed(answer, true, counts);
-    let places = expect_places(hits, from + without, 4096 - without);
+    let written = expect_written(hits, rises, from + without, 4096 - without);
     Reached {
         state,
-        difference: difference::first(ended, places),
+        difference: difference::first(ended, written),
     }
 }
 
 fn next_call(set: &[u32], automaton: &[u32], s: SearchState, text: &[i32]) -> Reached {
     let mut hits = [0u32; 8192];
-    full_call(set, automaton, s, text, &mut hits)
+    let mut rises = [test_rises::BEFORE; 4096];
+    full_call(set, automaton, s, text, &mut hits, &mut rises)
 }
 
 // The call behind another one.
@@ -132,36 +148,55 @@ fn expect_refused(s: Streamed) -> Difference {
     difference::first(expect::stream_refused(answer, 9), expect_taken(state))
 }
 
-// With all values taken, a call with none and a call with one value more.
-fn expect_last(set: &[u32], automaton: &[u32], s: SearchState, hits: &mut [u32]) -> Difference {
-    let none = expect_end(finder::stream_search(set, automaton, s, &[], hits));
-    let one = expect_refused(finder::stream_search(set, automaton, s, &[5], hits));
-    difference::first(none, one)
+// A call with no values, and arrays that are long enough.
+fn expect_none(set: &[u32], automaton: &[u32], s: SearchState) -> Difference {
+    let mut hits = [0u32; 2];
+    let mut rises = [0i32; 1];
+    expect_end(finder::stream_search(set, automaton, s, &[], &mut hits, &mut rises))
 }
 
-fn expect_limit(set: &[u32], text: &[i32], automaton: &[u32], hits: &mut [u32]) -> Difference {
+// A call with one value, and arrays that are long enough.
+fn expect_one(set: &[u32], automaton: &[u32], s: SearchState) -> Difference {
+    let mut hits = [0u32; 2];
+    let mut rises = [0i32; 1];
+    expect_refused(finder::stream_search(set, automaton, s, &[5], &mut hits, &mut rises))
+}
+
+// A call with one value, and a second array that is too short.
+fn expect_short(set: &[u32], automaton: &[u32], s: SearchState) -> Difference {
+    let mut hits = [0u32; 2];
+    let mut rises = [0i32; 0];
+    expect_refused(finder::stream_search(set, automaton, s, &[5], &mut hits, &mut rises))
+}
+
+// With all values taken, a call with none and calls with one value more.
+fn expect_last(set: &[u32], automaton: &[u32], s: SearchState) -> Difference {
+    let none = expect_none(set, automaton, s);
+    let one = expect_one(set, automaton, s);
+    difference::first(
+        none,
+        difference::first(one, expect_short(set, automaton, s)),
+    )
+}
+
+fn expect_limit(set: &[u32], text: &[i32], automaton: &[u32]) -> Difference {
     let r = all_calls(set, automaton, text);
     let s = r.state;
     let d = r.difference;
-    difference::first(d, expect_last(set, automaton, s, hits))
+    difference::first(d, expect_last(set, automaton, s))
 }
 
-fn limit_in(set: &[u32], text: &[i32], automaton: &mut [u32], hits: &mut [u32]) -> Difference {
-    finder::build_automaton(set, automaton);
-    expect_limit(set, text, automaton, hits)
-}
-
-fn limit_over(text: &[i32]) -> Difference {
+fn limit_over(set: &[u32], text: &[i32]) -> Difference {
     let mut automaton = [0u32; 48];
-    let mut hits = [0u32; 2];
-    limit_in(&[1, 2, 0, 2, 0, 1], text, &mut automaton, &mut hits)
+    finder::build_automaton(set, &mut automaton);
+    expect_limit(set, text, &automaton)
 }
 
 fn main() {
     let t = test_tally::named(
         test_tally::none(),
         b"1,048,576 values",
-        limit_over(&[-7; 4096]),
+        limit_over(&[1, 2, 0, 2, 0, 1], &[-7; 4096]),
     );
     test_tally::report(b"1,048,576 values: ", t);
 }

@@ -25,11 +25,12 @@ fn if_full(s: Stored, refusal: u64) -> u64 {
 }
 
 // A pattern of one value is not added: 15, or 6 where the set is full; the set is as it was.
-fn expect_refused(set: &mut [u32], want: &mut [u32], s: Stored) -> Difference {
-    arrays::copy(set, want);
+fn expect_refused(set: &mut [u32], s: Stored) -> Difference {
+    let mut want = [0u32; 480];
+    arrays::copy(set, &mut want);
     let a = finder::add_pattern(set, &[7]);
     let refused = expect_size(a, if_full(s, 15), set);
-    difference::first(refused, difference::expect_words(want, set))
+    difference::first(refused, difference::expect_words(&want, set))
 }
 
 // The set is good, and takes a pattern of two values, unless it is full.
@@ -40,17 +41,10 @@ fn expect_added(set: &mut [u32], s: Stored) -> Difference {
 }
 
 // The set is good and may not be searched.
-fn expect_stored(
-    s: Stored,
-    text: &[i32],
-    set: &mut [u32],
-    automaton: &[u32],
-    want: &mut [u32],
-    out: &mut [u32],
-) -> Difference {
+fn expect_stored(s: Stored, text: &[i32], set: &mut [u32], automaton: &[u32]) -> Difference {
     stored::write(set, text, s);
-    let calls = refused::expect_all(set, automaton, text, 15, out);
-    let one = expect_refused(set, want, s);
+    let calls = refused::expect_all(set, automaton, text, 15);
+    let one = expect_refused(set, s);
     difference::first(calls, difference::first(one, expect_added(set, s)))
 }
 
@@ -77,34 +71,21 @@ fn second_number(s: Stored) -> usize {
 }
 
 // The set may be searched, or nothing is left of it.
-fn expect_left(
-    text: &[i32],
-    set: &[u32],
-    automaton: &mut [u32],
-    want: &mut [u32],
-    out: &mut [u32],
-) -> Difference {
+fn expect_left(text: &[i32], set: &[u32], automaton: &mut [u32]) -> Difference {
     if arrays::number(set, 0) == 0 {
-        return refused::expect_all(set, automaton, text, 1, out);
+        return refused::expect_all(set, automaton, text, 1);
     }
     finder::build_automaton(set, automaton);
-    searched::expect_all(set, text, automaton, want, out)
+    searched::expect_all(set, text, automaton)
 }
 
 // One pattern withdrawn, and then the last one of one value.
-fn expect_withdrawn(
-    s: Stored,
-    text: &[i32],
-    set: &mut [u32],
-    automaton: &mut [u32],
-    want: &mut [u32],
-    out: &mut [u32],
-) -> Difference {
+fn expect_withdrawn(s: Stored, text: &[i32], set: &mut [u32], automaton: &mut [u32]) -> Difference {
     stored::write(set, text, s);
     finder::withdraw_pattern(set, first_number(s));
-    let still = refused::expect_all(set, automaton, text, 15, out);
+    let still = refused::expect_all(set, automaton, text, 15);
     finder::withdraw_pattern(set, second_number(s));
-    difference::first(still, expect_left(text, set, automaton, want, out))
+    difference::first(still, expect_left(text, set, automaton))
 }
 
 // ---- all
@@ -118,17 +99,10 @@ fn build_without(s: Stored, text: &[i32], set: &mut [u32], automaton: &mut [u32]
     finder::build_automaton(set, automaton);
 }
 
-fn case_in(
-    s: Stored,
-    text: &[i32],
-    set: &mut [u32],
-    automaton: &mut [u32],
-    want: &mut [u32],
-    out: &mut [u32],
-) -> Difference {
+fn case_in(s: Stored, text: &[i32], set: &mut [u32], automaton: &mut [u32]) -> Difference {
     build_without(s, text, set, automaton);
-    let kept = expect_stored(s, text, set, automaton, want, out);
-    difference::first(kept, expect_withdrawn(s, text, set, automaton, want, out))
+    let kept = expect_stored(s, text, set, automaton);
+    difference::first(kept, expect_withdrawn(s, text, set, automaton))
 }
 
 // A text of 40 values without a gap.
@@ -138,13 +112,11 @@ fn fill(text: &mut [i32], seed: usize) {
     texts::fill_gaps(text, n);
 }
 
-// A case: the arrays have room for 64 patterns of 6 values and for their hits at 40 places.
+// A case: the arrays have room for 64 patterns of 6 values.
 pub(crate) fn case(s: Stored) -> Difference {
     let mut text = [0i32; 40];
     let mut set = [arrays::BEFORE; 480];
     let mut automaton = [0u32; 6400];
-    let mut want = [0u32; 6400];
-    let mut out = [0u32; 6400];
     fill(&mut text, s.seed);
-    case_in(s, &text, &mut set, &mut automaton, &mut want, &mut out)
+    case_in(s, &text, &mut set, &mut automaton)
 }

@@ -7,7 +7,8 @@ use test_differences::difference::Difference;
 use test_differences::expect;
 use test_inputs::arrays;
 
-// A call of the stream search; the state is expected to be handed back as it was.
+// A call of the stream search; the state is expected to be handed back as it was, and every value
+// of the second array to stay.
 fn stream(
     set: &[u32],
     automaton: &[u32],
@@ -16,12 +17,24 @@ fn stream(
     number: u64,
     hits: &mut [u32],
 ) -> Difference {
-    let s = finder::stream_search(set, automaton, state, text, hits);
+    let mut rises = [test_rises::BEFORE; 3200];
+    let s = finder::stream_search(set, automaton, state, text, hits, &mut rises);
     let answer = s.answer;
     let after = s.state;
-    difference::first(
-        expect::stream_refused(answer, number),
+    let kept = difference::first(
         test_states::expect_same(state, after),
+        test_rises::expect_front(&[], &rises),
+    );
+    difference::first(expect::stream_refused(answer, number), kept)
+}
+
+// A filter search; every value of the second array is expected to stay.
+fn filter(set: &[u32], text: &[i32], number: u64, hits: &mut [u32]) -> Difference {
+    let mut rises = [test_rises::BEFORE; 3200];
+    let a = finder::filter_search(set, text, hits, &mut rises);
+    difference::first(
+        expect::filtered(a, number, 0, 0),
+        test_rises::expect_front(&[], &rises),
     )
 }
 
@@ -36,7 +49,7 @@ fn writes(
     out: &mut [u32],
 ) -> Difference {
     let a = expect::built(finder::build_automaton(set, out), number, 0, 0);
-    let b = expect::filtered(finder::filter_search(set, text, out), number, 0, 0);
+    let b = filter(set, text, number, out);
     let c = stream(set, automaton, state, text, number, out);
     let kept = difference::expect_held(out, 0, arrays::BEFORE);
     difference::first(difference::first(a, b), difference::first(c, kept))
@@ -64,16 +77,15 @@ fn firsts(set: &[u32], automaton: &[u32], text: &[i32], number: u64) -> Differen
     )
 }
 
+// The same with an array that is long enough.
+fn long_writes(set: &[u32], automaton: &[u32], text: &[i32], number: u64) -> Difference {
+    let mut out = [arrays::BEFORE; 6400];
+    writes(set, automaton, SearchState::new(), text, number, &mut out)
+}
+
 // All calls, with an array that is long enough and with a short one.
-pub(crate) fn expect_all(
-    set: &[u32],
-    automaton: &[u32],
-    text: &[i32],
-    number: u64,
-    out: &mut [u32],
-) -> Difference {
-    arrays::hold(out, arrays::BEFORE);
-    let long = writes(set, automaton, SearchState::new(), text, number, out);
+pub(crate) fn expect_all(set: &[u32], automaton: &[u32], text: &[i32], number: u64) -> Difference {
+    let long = long_writes(set, automaton, text, number);
     let short = short_writes(set, text, number);
     difference::first(
         long,

@@ -8,21 +8,30 @@ use test_differences::difference::Difference;
 use test_differences::expect;
 use test_inputs::arrays;
 
-// The filter search is expected to find so many hits, those that the array begins with, and to
-// write nothing else.
-fn expect_filtered(
+// A list of so many hits and the rises over them are expected, and nothing else written.
+fn expect_written(
     set: &[u32],
     text: &[i32],
     want: &[u32],
     hits: usize,
-    out: &mut [u32],
+    out: &[u32],
+    rises: &[i32],
 ) -> Difference {
-    arrays::hold(out, arrays::BEFORE);
+    difference::first(
+        difference::expect_words(want, out),
+        test_rises::expect(set, text, want, hits, rises),
+    )
+}
+
+// The filter search is expected to find the hits of the list.
+fn expect_filtered(set: &[u32], text: &[i32], want: &[u32], hits: usize) -> Difference {
+    let mut out = [arrays::BEFORE; 6400];
+    let mut rises = [test_rises::BEFORE; 3200];
     let candidates = test_plain::candidates(set, text);
-    let a = finder::filter_search(set, text, out);
+    let a = finder::filter_search(set, text, &mut out, &mut rises);
     difference::first(
         expect::filtered(a, 0, hits, candidates),
-        difference::expect_words(want, out),
+        expect_written(set, text, want, hits, &out, &rises),
     )
 }
 
@@ -33,10 +42,11 @@ fn expect_streamed(
     text: &[i32],
     want: &[u32],
     hits: usize,
-    out: &mut [u32],
 ) -> Difference {
-    arrays::hold(out, arrays::BEFORE);
-    let s = finder::stream_search(set, automaton, SearchState::new(), text, out);
+    let mut out = [arrays::BEFORE; 6400];
+    let mut rises = [test_rises::BEFORE; 3200];
+    let state = SearchState::new();
+    let s = finder::stream_search(set, automaton, state, text, &mut out, &mut rises);
     let answer = s.answer;
     let counts = Counts {
         taken: text.len(),
@@ -45,7 +55,7 @@ fn expect_streamed(
     };
     difference::first(
         expect::streamed(answer, true, counts),
-        difference::expect_words(want, out),
+        expect_written(set, text, want, hits, &out, &rises),
     )
 }
 
@@ -62,17 +72,11 @@ fn expect_first(set: &[u32], automaton: &[u32], text: &[i32], want: &[u32]) -> D
 }
 
 // Both searches and the first hit, over the set's automaton.
-pub(crate) fn expect_all(
-    set: &[u32],
-    text: &[i32],
-    automaton: &[u32],
-    want: &mut [u32],
-    out: &mut [u32],
-) -> Difference {
-    arrays::hold(want, arrays::BEFORE);
-    let hits = test_plain::hits_between(set, text, 0, text.len(), want) / 2;
-    let filtered = expect_filtered(set, text, want, hits, out);
-    let streamed = expect_streamed(set, automaton, text, want, hits, out);
-    let first = expect_first(set, automaton, text, want);
+pub(crate) fn expect_all(set: &[u32], text: &[i32], automaton: &[u32]) -> Difference {
+    let mut want = [arrays::BEFORE; 6400];
+    let hits = test_plain::hits_between(set, text, 0, text.len(), &mut want) / 2;
+    let filtered = expect_filtered(set, text, &want, hits);
+    let streamed = expect_streamed(set, automaton, text, &want, hits);
+    let first = expect_first(set, automaton, text, &want);
     difference::first(filtered, difference::first(streamed, first))
 }

@@ -21,7 +21,40 @@ struct Expected {
     attempts: usize,
 }
 
-// A call with the values between two places of a text and the first words of a hit array.
+// What a call answered, and what differs in the rises that it wrote.
+struct Called {
+    streamed: Streamed,
+    difference: Difference,
+}
+
+// A call with the values between two places of a text, the first words of a hit array, and a second
+// array that is as long as it must be, or one or two values longer.
+fn call_in(
+    set: &[u32],
+    automaton: &[u32],
+    state: SearchState,
+    text: &[i32],
+    from: usize,
+    end: usize,
+    room: usize,
+    hits: &mut [u32],
+    rises: &mut [i32],
+) -> Streamed {
+    let e = arrays::smaller(end, text.len());
+    let a = arrays::smaller(from, e);
+    let n = arrays::smaller(room, hits.len());
+    let m = arrays::smaller(test_rises::least(n) + from % 3, rises.len());
+    finder::stream_search(
+        set,
+        automaton,
+        state,
+        &text[a..e],
+        &mut hits[..n],
+        &mut rises[..m],
+    )
+}
+
+// The call, whose rises are expected to be those over the first so many hits of a list.
 fn call(
     set: &[u32],
     automaton: &[u32],
@@ -31,11 +64,25 @@ fn call(
     end: usize,
     room: usize,
     hits: &mut [u32],
-) -> Streamed {
-    let e = arrays::smaller(end, text.len());
-    let a = arrays::smaller(from, e);
-    let n = arrays::smaller(room, hits.len());
-    finder::stream_search(set, automaton, state, &text[a..e], &mut hits[..n])
+    want: &[u32],
+    count: usize,
+) -> Called {
+    let mut rises = [test_rises::BEFORE; 1026];
+    let streamed = call_in(
+        set,
+        automaton,
+        state,
+        text,
+        from,
+        end,
+        room,
+        hits,
+        &mut rises,
+    );
+    Called {
+        streamed,
+        difference: test_rises::expect(set, text, want, count, &rises),
+    }
 }
 
 fn less(a: usize, b: usize) -> usize {
@@ -134,6 +181,43 @@ fn expect_step(
     )
 }
 
+// The call, held against what it must do: the hits are expected to be those of the list.
+fn step_as(
+    set: &[u32],
+    automaton: &[u32],
+    state: SearchState,
+    text: &[i32],
+    end: usize,
+    room: usize,
+    x: Expected,
+    want: &[u32],
+) -> Step {
+    let mut hits = [arrays::BEFORE; 2048];
+    let from = arrays::wide(state.taken);
+    let hit_count = x.words / 2;
+    let c = call(
+        set,
+        automaton,
+        state,
+        text,
+        from,
+        end,
+        room,
+        &mut hits,
+        want,
+        hit_count,
+    );
+    let s = c.streamed;
+    let rises = c.difference;
+    let after = s.state;
+    let d = expect_step(set, automaton, s, text, want, &hits, x, x.to == end, from);
+    let cleared = expect_cleared(state, after, text, from, x.to);
+    Step {
+        state: after,
+        difference: difference::first(d, difference::first(rises, cleared)),
+    }
+}
+
 fn step_in(
     set: &[u32],
     automaton: &[u32],
@@ -141,20 +225,10 @@ fn step_in(
     text: &[i32],
     end: usize,
     room: usize,
-    hits: &mut [u32],
     want: &mut [u32],
 ) -> Step {
-    let from = arrays::wide(state.taken);
-    let x = expect_call(set, text, from, end, room, want);
-    arrays::hold(hits, arrays::BEFORE);
-    let s = call(set, automaton, state, text, from, end, room, hits);
-    let after = s.state;
-    let d = expect_step(set, automaton, s, text, want, hits, x, x.to == end, from);
-    let cleared = expect_cleared(state, after, text, from, x.to);
-    Step {
-        state: after,
-        difference: difference::first(d, cleared),
-    }
+    let x = expect_call(set, text, arrays::wide(state.taken), end, room, want);
+    step_as(set, automaton, state, text, end, room, x, want)
 }
 
 // A call with the values of the text from those taken up to an end, and a hit array of so many
@@ -167,44 +241,6 @@ pub(crate) fn make_step(
     end: usize,
     room: usize,
 ) -> Step {
-    let mut hits = [0u32; 2048];
     let mut want = [0u32; 2048];
-    step_in(set, automaton, state, text, end, room, &mut hits, &mut want)
-}
-
-// A refusal by the number, the state as it was, and no word written are expected.
-fn expect_unchanged(s: Streamed, state: SearchState, hits: &[u32], number: u64) -> Difference {
-    let answer = s.answer;
-    let after = s.state;
-    let kept = difference::expect_held(hits, 0, arrays::BEFORE);
-    let same = difference::first(kept, test_states::expect_same(state, after));
-    difference::first(expect::stream_refused(answer, number), same)
-}
-
-fn expect_refused_in(
-    set: &[u32],
-    automaton: &[u32],
-    state: SearchState,
-    text: &[i32],
-    room: usize,
-    number: u64,
-    hits: &mut [u32],
-) -> Difference {
-    arrays::hold(hits, arrays::BEFORE);
-    let s = call(set, automaton, state, text, 0, text.len(), room, hits);
-    expect_unchanged(s, state, hits, number)
-}
-
-// A call with these values is expected to be refused by the number, to hand the state back as it
-// was and to write nothing.
-pub(crate) fn expect_refused(
-    set: &[u32],
-    automaton: &[u32],
-    state: SearchState,
-    text: &[i32],
-    room: usize,
-    number: u64,
-) -> Difference {
-    let mut hits = [0u32; 256];
-    expect_refused_in(set, automaton, state, text, room, number, &mut hits)
+    step_in(set, automaton, state, text, end, room, &mut want)
 }

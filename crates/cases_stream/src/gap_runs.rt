@@ -1,6 +1,6 @@
 // Runs over texts with gaps, which are cut into calls about the gaps.
 ghost use Rattle.lists.specs.Prelude.{_≤_};
-use crate::runs;
+use crate::run_cases;
 use test_differences::difference::Difference;
 use test_inputs::arrays;
 use test_inputs::texts;
@@ -20,7 +20,7 @@ fn scattered_in(
     let u = texts::scatter_gaps(text, n, texts::pick(t, 9) + 2, t);
     let v = test_sets::make(set, text, kind, texts::pick(u, 4) + 1, 8, u);
     finder::build_automaton(set, automaton);
-    runs::expect_run(set, automaton, text, n, texts::pick(v, 6), v)
+    run_cases::expect_run(set, automaton, text, n, texts::pick(v, 6), v)
 }
 
 // A text of up to 120 values, of which one of 2 to 11 is a gap, and up to 5 patterns of 2 to 10.
@@ -104,7 +104,7 @@ fn apart_in(number: usize, set: &mut [u32], automaton: &mut [u32], text: &mut [i
     make_set(set, text, from + row, from + row + every);
     put_gaps(text, from, every, row, s);
     finder::build_automaton(set, automaton);
-    runs::expect_run(set, automaton, text, n, way_of(s / 8), s)
+    run_cases::expect_run(set, automaton, text, n, way_of(s / 8), s)
 }
 
 // A text of 560 values with one, two or three gaps in a row at every distance that the number

@@ -1,12 +1,12 @@
-// Runs of stream search calls, with refused calls between them, held against the plain search of
-// the crate test_plain: the hits, the values taken, ended or full, the attempts, the words behind
-// the hits, and after every call the node and the open minima of the state that is handed back;
-// behind gaps only, the whole state. Texts with gaps are cut into calls about the gaps.
+// Runs of stream search calls, held against the plain search of the crate test_plain: the hits, the
+// rises over them, the values taken, ended or full, the attempts, the words and values behind the
+// hits and rises, and after every call the node, the open minima and the values kept of the state
+// that is handed back; behind gaps only, the whole state. Texts with gaps are cut into calls about
+// the gaps.
 mod calls;
 mod cuts;
 mod gap_runs;
-mod refused;
-mod runs;
+mod run_cases;
 
 use test_tally::Tally;
 
@@ -14,7 +14,7 @@ fn random_cases(group: &[u8], n: usize) -> Tally {
     let mut t = test_tally::none();
     let mut i: usize = 0;
     while i < n {
-        t = test_tally::numbered(t, group, i, runs::random_case(i));
+        t = test_tally::numbered(t, group, i, run_cases::random_case(i));
         i += 1;
     }
     test_tally::report(group, t);
@@ -49,9 +49,10 @@ fn cut_cases(group: &[u8]) -> Tally {
     let flat = test_tally::named(
         test_tally::none(),
         b"600 equal values",
-        runs::cut_case(false),
+        run_cases::cut_case(0),
     );
-    let t = test_tally::named(flat, b"600 rising values", runs::cut_case(true));
+    let up = test_tally::named(flat, b"600 rising values", run_cases::cut_case(1));
+    let t = test_tally::named(up, b"600 falling values", run_cases::cut_case(2));
     test_tally::report(group, t);
     t
 }

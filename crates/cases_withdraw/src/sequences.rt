@@ -1,7 +1,6 @@
 // Sequences of steps: patterns are added to a set in one array and withdrawn from it. After each
 // step the answer and every word of the array are held against a model. Each step is a case.
 use crate::model;
-use crate::numbers;
 use answers::SetSize;
 use test_differences::difference;
 use test_differences::difference::Difference;
@@ -80,16 +79,25 @@ fn pattern_length(number: usize, seed: usize) -> usize {
     }
 }
 
+// A number that none of k patterns has: the next one, the one behind it, or the highest of all.
+fn of_none(way: usize, k: usize) -> usize {
+    match way % 3 {
+        0 => k,
+        1 => std::num::wrapping_add_usize(k, 1),
+        _ => 18446744073709551615,
+    }
+}
+
 // The number to withdraw by at a set of k patterns: a pattern's, or one time out of eight a number
 // that none has. The last of every eight steps withdraws the pattern that the one before it added.
 fn withdrawn_number(k: usize, step: usize, seed: usize) -> usize {
     if step % 8 == 7 {
-        return numbers::of_pattern(2, k, seed);
+        return test_sets::pattern_number(2, k, seed);
     }
     if texts::pick(seed, 7) == 0 {
-        return numbers::of_none(seed / 8, k);
+        return of_none(seed / 8, k);
     }
-    numbers::of_pattern(seed / 8, k, texts::next(seed))
+    test_sets::pattern_number(seed / 8, k, texts::next(seed))
 }
 
 // One step of a sequence.

@@ -1,11 +1,9 @@
-// The worked searches, those on which finders part, texts with gaps, hit arrays of two words a
-// pattern and one word less, and a text of no values.
+// The worked searches, those on which finders part, texts with gaps, rises about the ends of 32
+// bits, and a text of no values.
 use answers::Counts;
 use answers::SearchState;
-use answers::Streamed;
 use test_differences::difference;
 use test_differences::difference::Difference;
-use test_differences::difference::Part;
 use test_differences::expect;
 use test_inputs::arrays;
 use test_tally::Tally;
@@ -26,16 +24,27 @@ fn make(set: &mut [u32], automaton: &mut [u32], p: &[i32], q: &[i32], r: &[i32])
     finder::build_automaton(set, automaton);
 }
 
+// Hits and rises are expected to begin the arrays, which else hold what they held before.
+fn expect_written(want: &[u32], rise: &[i32], hits: &[u32], rises: &[i32]) -> Difference {
+    difference::first(
+        difference::expect_front(want, hits),
+        test_rises::expect_front(rise, rises),
+    )
+}
+
+// The stream search, with a second array that is just long enough.
 fn streams(
     set: &[u32],
     automaton: &[u32],
     text: &[i32],
     want: &[u32],
+    rise: &[i32],
     attempts: usize,
-    hits: &mut [u32],
 ) -> Difference {
-    arrays::hold(hits, arrays::BEFORE);
-    let s = finder::stream_search(set, automaton, SearchState::new(), text, hits);
+    let mut hits = [arrays::BEFORE; 25];
+    let mut rises = [test_rises::BEFORE; 13];
+    let state = SearchState::new();
+    let s = finder::stream_search(set, automaton, state, text, &mut hits, &mut rises);
     let answer = s.answer;
     let counts = Counts {
         taken: text.len(),
@@ -44,38 +53,34 @@ fn streams(
     };
     difference::first(
         expect::streamed(answer, true, counts),
-        difference::expect_front(want, hits),
+        expect_written(want, rise, &hits, &rises),
     )
 }
 
-fn filters(
-    set: &[u32],
-    text: &[i32],
-    want: &[u32],
-    candidates: usize,
-    hits: &mut [u32],
-) -> Difference {
-    arrays::hold(hits, arrays::BEFORE);
-    let a = finder::filter_search(set, text, hits);
+// The filter search, with a second array that is just long enough.
+fn filters(set: &[u32], text: &[i32], want: &[u32], rise: &[i32], candidates: usize) -> Difference {
+    let mut hits = [arrays::BEFORE; 25];
+    let mut rises = [test_rises::BEFORE; 13];
+    let a = finder::filter_search(set, text, &mut hits, &mut rises);
     difference::first(
         expect::filtered(a, 0, want.len() / 2, candidates),
-        difference::expect_front(want, hits),
+        expect_written(want, rise, &hits, &rises),
     )
 }
 
-// Both searches are expected to list these hits, the one with so many attempts and the other with
-// so many candidates.
+// Both searches are expected to list these hits and rises, the one with so many attempts and the
+// other with so many candidates.
 fn lists(
     set: &[u32],
     automaton: &[u32],
     text: &[i32],
     want: &[u32],
+    rise: &[i32],
     attempts: usize,
     candidates: usize,
 ) -> Difference {
-    let mut hits = [0u32; 24];
-    let a = streams(set, automaton, text, want, attempts, &mut hits);
-    difference::first(a, filters(set, text, want, candidates, &mut hits))
+    let a = streams(set, automaton, text, want, rise, attempts);
+    difference::first(a, filters(set, text, want, rise, candidates))
 }
 
 // The same of the set of one pattern, or of two where the second has values.
@@ -84,13 +89,14 @@ fn finds(
     q: &[i32],
     text: &[i32],
     want: &[u32],
+    rise: &[i32],
     attempts: usize,
     candidates: usize,
 ) -> Difference {
     let mut set = [0u32; 20];
     let mut automaton = [0u32; 240];
     make(&mut set, &mut automaton, p, q, &[]);
-    lists(&set, &automaton, text, want, attempts, candidates)
+    lists(&set, &automaton, text, want, rise, attempts, candidates)
 }
 
 fn first_starred() -> Difference {
@@ -99,6 +105,7 @@ fn first_starred() -> Difference {
         &[],
         &[6, 1, 5, 3, 6, 5, 7, 4, 2, 3, 1],
         &[7, 0],
+        &[1],
         17,
         2,
     )
@@ -110,6 +117,7 @@ fn second_starred() -> Difference {
         &[],
         &[41, 36, 15, 8, 41, 23, 28, 16, 26, 22, 56, 29, 12, 61],
         &[10, 0],
+        &[15],
         20,
         2,
     )
@@ -117,37 +125,53 @@ fn second_starred() -> Difference {
 
 // An equal value does not close an open minimum.
 fn equal_values() -> Difference {
-    finds(&[2, 3, 2], &[], &[2, 3, 2, 2, 3, 2], &[2, 0, 5, 0], 8, 2)
+    finds(
+        &[2, 3, 2],
+        &[],
+        &[2, 3, 2, 2, 3, 2],
+        &[2, 0, 5, 0],
+        &[0, 0],
+        8,
+        2,
+    )
 }
 
 // A search goes on from a hit.
 fn overlapping() -> Difference {
-    finds(&[1, 2], &[], &[1, 2, 3], &[1, 0, 2, 0], 4, 2)
+    finds(&[1, 2], &[], &[1, 2, 3], &[1, 0, 2, 0], &[1, 1], 4, 2)
 }
 
 // A shorter pattern that ends with a longer one is a hit too.
 fn shorter_too() -> Difference {
-    finds(&[1, 2], &[2, 1, 2], &[5, 3, 4], &[2, 1, 2, 0], 3, 2)
+    finds(
+        &[1, 2],
+        &[2, 1, 2],
+        &[5, 3, 4],
+        &[2, 1, 2, 0],
+        &[-1, 1],
+        3,
+        2,
+    )
 }
 
 // A distance that leads out of the window is 0.
 fn cut_distance() -> Difference {
-    finds(&[2, 1], &[], &[1, 5, 4], &[2, 0], 4, 1)
+    finds(&[2, 1], &[], &[1, 5, 4], &[2, 0], &[-1], 4, 1)
 }
 
 // Equal fingerprints are not equal trees.
 fn equal_fingerprints() -> Difference {
-    finds(&[1, 3, 2], &[], &[2, 3, 1, 3, 2], &[4, 0], 7, 2)
+    finds(&[1, 3, 2], &[], &[2, 3, 1, 3, 2], &[4, 0], &[1], 7, 2)
 }
 
 // A window that holds a gap is no hit and no candidate, and a gap makes no attempt.
 fn gap_between() -> Difference {
-    finds(&[1, 2], &[], &[1, -2147483648, 2, 3], &[3, 0], 3, 1)
+    finds(&[1, 2], &[], &[1, -2147483648, 2, 3], &[3, 0], &[1], 3, 1)
 }
 
 // A gap is not the lowest value: it closes all minima, and behind it nothing is open.
 fn gap_no_minimum() -> Difference {
-    finds(&[1, 2, 1], &[2, 1], &[1, 2, -2147483648, 1], &[], 3, 0)
+    finds(&[1, 2, 1], &[2, 1], &[1, 2, -2147483648, 1], &[], &[], 3, 0)
 }
 
 // A gap before the last two values of a window, whose fingerprint is the pattern's.
@@ -157,6 +181,7 @@ fn gap_before_fingerprint() -> Difference {
         &[1, 2],
         &[1, -2147483648, 2, 3, 4],
         &[3, 1, 4, 1],
+        &[1, 1],
         4,
         2,
     )
@@ -177,6 +202,70 @@ fn gaps_and_lowest() -> Difference {
             -2147483647,
         ],
         &[2, 1, 6, 0],
+        &[-2147483648, 0],
+        4,
+        2,
+    )
+}
+
+// Rises past the highest number of 32 bits, just there, and just below.
+fn highest_rises() -> Difference {
+    finds(
+        &[1, 2],
+        &[2, 1],
+        &[
+            -2147483647,
+            2147483647,
+            -2147483648,
+            -1,
+            2147483647,
+            -2147483648,
+            -1,
+            2147483646,
+            -2147483648,
+            -2,
+            2147483644,
+        ],
+        &[1, 0, 4, 0, 7, 0, 10, 0],
+        &[2147483647, 2147483647, 2147483647, 2147483646],
+        8,
+        4,
+    )
+}
+
+// Rises below the lowest number of 32 bits, just there, and just above.
+fn lowest_rises() -> Difference {
+    finds(
+        &[1, 2],
+        &[2, 1],
+        &[
+            2147483647,
+            -2147483647,
+            -2147483648,
+            2,
+            -2147483647,
+            -2147483648,
+            1,
+            -2147483647,
+            -2147483648,
+            0,
+            -2147483647,
+        ],
+        &[1, 1, 4, 1, 7, 1, 10, 1],
+        &[-2147483648, -2147483648, -2147483648, -2147483647],
+        8,
+        4,
+    )
+}
+
+// One rise is past the highest number, the next one below the lowest.
+fn both_rises() -> Difference {
+    finds(
+        &[1, 2],
+        &[2, 1],
+        &[2147483647, -2147483647, 2147483647],
+        &[1, 1, 2, 0],
+        &[-2147483648, 2147483647],
         4,
         2,
     )
@@ -202,53 +291,10 @@ fn gaps(t: Tally) -> Tally {
     test_tally::named(c, b"gaps and the lowest sample", gaps_and_lowest())
 }
 
-// A hit array of 6 words for 3 patterns is full behind the first hit, and takes no value more.
-fn exact_in(set: &[u32], automaton: &[u32], hits: &mut [u32]) -> Difference {
-    arrays::hold(hits, arrays::BEFORE);
-    let s = finder::stream_search(
-        set,
-        automaton,
-        SearchState::new(),
-        &[4, 2, 3, 1, 5, 0, 1, 2, 4, 3],
-        hits,
-    );
-    let answer = s.answer;
-    let state = s.state;
-    let counts = Counts {
-        taken: 5,
-        hits: 1,
-        attempts: 5,
-    };
-    difference::first(
-        expect::streamed(answer, false, counts),
-        expect_kept(5, state, &[4, 0], hits),
-    )
-}
-
-// So many values taken are expected in a state, and these words in a hit array.
-fn expect_kept(taken: u64, s: SearchState, want: &[u32], hits: &[u32]) -> Difference {
-    difference::first(
-        difference::expect(Part::Taken, taken, s.taken as u64),
-        difference::expect_front(want, hits),
-    )
-}
-
-// A refusal under 10, a new state and no word written are expected.
-fn expect_short(s: Streamed, hits: &[u32]) -> Difference {
-    let answer = s.answer;
-    let state = s.state;
-    let same = test_states::expect_same(SearchState::new(), state);
-    difference::first(
-        expect::stream_refused(answer, 10),
-        difference::first(same, difference::expect_front(&[], hits)),
-    )
-}
-
-// One of 5 words is refused under 10.
-fn short_in(set: &[u32], automaton: &[u32], hits: &mut [u32]) -> Difference {
-    arrays::hold(hits, arrays::BEFORE);
-    let s = finder::stream_search(set, automaton, SearchState::new(), &[4, 2, 3, 1, 5], hits);
-    expect_short(s, hits)
+fn clamped(t: Tally) -> Tally {
+    let a = test_tally::named(t, b"rises about the highest number", highest_rises());
+    let b = test_tally::named(a, b"rises about the lowest number", lowest_rises());
+    test_tally::named(b, b"rises past both ends", both_rises())
 }
 
 fn three_found(set: &[u32], automaton: &[u32]) -> Difference {
@@ -257,31 +303,20 @@ fn three_found(set: &[u32], automaton: &[u32]) -> Difference {
         automaton,
         &[4, 2, 3, 1, 5, 0, 1, 2, 4, 3],
         &[4, 0, 6, 0, 9, 2],
+        &[1, -2, 3],
         13,
         5,
     )
 }
 
 fn none_found(set: &[u32], automaton: &[u32]) -> Difference {
-    lists(set, automaton, &[], &[], 0, 0)
+    lists(set, automaton, &[], &[], &[], 0, 0)
 }
 
-fn exact(set: &[u32], automaton: &[u32]) -> Difference {
-    let mut hits = [0u32; 6];
-    exact_in(set, automaton, &mut hits)
-}
-
-fn short(set: &[u32], automaton: &[u32]) -> Difference {
-    let mut hits = [0u32; 5];
-    short_in(set, automaton, &mut hits)
-}
-
-// The three patterns over a text, over no values, and with short hit arrays.
+// The three patterns over a text, and over no values.
 fn three_over(t: Tally, set: &[u32], automaton: &[u32]) -> Tally {
     let a = test_tally::named(t, b"three patterns", three_found(set, automaton));
-    let b = test_tally::named(a, b"no values", none_found(set, automaton));
-    let c = test_tally::named(b, b"a hit array of 6 words", exact(set, automaton));
-    test_tally::named(c, b"a hit array of 5 words", short(set, automaton))
+    test_tally::named(a, b"no values", none_found(set, automaton))
 }
 
 fn three(t: Tally) -> Tally {
@@ -298,7 +333,7 @@ fn three(t: Tally) -> Tally {
 }
 
 pub(crate) fn all_cases(group: &[u8]) -> Tally {
-    let t = three(gaps(parting(starred(test_tally::none()))));
+    let t = three(clamped(gaps(parting(starred(test_tally::none())))));
     test_tally::report(group, t);
     t
 }

@@ -1,5 +1,6 @@
 -- The entries: when each refuses, what it counts and what it writes.
-use Rattle.lists.specs.Prelude.{Bool, cond, not, _&&_, _||_, List, [], _∷_, _++_, flatten, ℕ, zero, suc, _+_, _-_, _*_, eqb, leb, ltb, ℤ, length, drop, begins}
+use Rattle.lists.specs.Prelude.{Bool, cond, not, _&&_, _||_, List, [], _∷_, _++_, map, flatten, ℕ, zero, suc, _+_, _-_, _*_, eqb, leb, ltb, ℤ, length, drop}
+use Rattle.lists.specs.Prelude.{begins}
 use Rattle.lists.specs.Prelude.{replicate, Option, none, some}
 use Rattle.gaps.specs.Gaps.{holdsGap}
 use Rattle.cartesian.specs.Cartesian.{distances}
@@ -8,9 +9,10 @@ use Rattle.catalogue.specs.Catalogue.{nextList}
 use Rattle.ranking.specs.Rank.{rank, unrank, isRank}
 use Rattle.pattern_set.specs.PatternSet.{setWords, hasOneValue, holdsOneValue, isSet, patternsOf, without}
 use Rattle.matching.specs.Matching.{hits, hitWords, candidates}
+use Rattle.matching.specs.Rise.{riseIn}
 use Rattle.automaton_model.specs.Automaton.{nodes, automatonWords}
 use Rattle.answers.specs.declared.SearchState.{SearchState}
-use Rattle.search_model.specs.Search.{goodState, call}
+use Rattle.search_model.specs.Search.{Position, positionOf, goodState, Called, call, stateAfter, risesOf}
 
 -- ---- What entries have in common. Document 01: Of the conditions that concern a call, the first
 -- met gives its number.
@@ -140,26 +142,44 @@ buildEntry ws out =
 abbrev pub searchConditions : List ℕ → List ℕ → Conditions
 searchConditions ws automaton = setConditions ws ++ ((7, not (begins automaton (automatonWords (patternsOf ws)))) ∷ [])
 
--- ---- a call of the stream search: set, automaton, state, values and hit array
+-- ---- a call of the stream search: set, automaton, state, values, hit array and second array.
+-- Document 02, 2.7
+
+-- the second array has less than one word for two of the hit array
+abbrev pub isShort : List ℕ → List ℤ → Bool
+isShort out rises = ltb (2 * length rises) (length out)
 
 -- 1 for ended and 0 for full; values taken, hits and attempts
 abbrev pub Counts : Type 0
 Counts = ℕ × ℕ × ℕ × ℕ
 
-unfoldable pub streamConditions : List ℕ → List ℕ → SearchState → List ℤ → List ℕ → Conditions
-streamConditions ws automaton st xs out =
+unfoldable pub streamConditions : List ℕ → List ℕ → SearchState → List ℤ → List ℕ → List ℤ → Conditions
+streamConditions ws automaton st xs out rises =
     let ps = patternsOf ws in
     searchConditions ws automaton ++
-    ((8, not (goodState ps st)) ∷ (9, ltb 1048576 (st .taken + length xs)) ∷ (10, ltb (length out) (2 * length ps)) ∷ [])
+    ((8, not (goodState ps st)) ∷ (9, ltb 1048576 (st .taken + length xs)) ∷ (10, ltb (length out) (2 * length ps) || isShort out rises) ∷ [])
 
-abbrev pub streamEntry : List ℕ → List ℕ → SearchState → List ℤ → List ℕ → Entry Counts ℕ
-streamEntry ws automaton st xs out =
-    let c = call (patternsOf ws) st (length out) xs in
-    record { conditions = streamConditions ws automaton st xs out; counts = (c .ended, c .taken, length (c .hits), c .attempts); result = hitWords (c .hits) }
+-- what an accepted one does
+abbrev pub streamCall : List ℕ → SearchState → List ℤ → List ℕ → Called Position
+streamCall ws st xs out = call (patternsOf ws) (positionOf st) (length out) xs
+
+-- what a call writes, by what an accepted one does: the hits to the hit array, the rises to the
+-- second array
+abbrev pub streamWrites : {A : Type 0} → (Called Position → List A) → List ℕ → List ℕ → SearchState → List ℤ → List ℕ → List ℤ → Entry Counts A
+streamWrites written ws automaton st xs out rises =
+    let c = streamCall ws st xs out in
+    let cs = streamConditions ws automaton st xs out rises in
+    record { conditions = cs; counts = (c .ended, c .taken, length (c .hits), c .attempts); result = written c }
+
+abbrev pub streamEntry : List ℕ → List ℕ → SearchState → List ℤ → List ℕ → List ℤ → Entry Counts ℕ
+streamEntry ws automaton st xs out rises = streamWrites (λ c. hitWords (c .hits)) ws automaton st xs out rises
+
+abbrev pub streamRises : List ℕ → List ℕ → SearchState → List ℤ → List ℕ → List ℤ → Entry Counts ℤ
+streamRises ws automaton st xs out rises = streamWrites (risesOf (patternsOf ws) st xs) ws automaton st xs out rises
 
 -- the state handed back
-abbrev pub streamState : List ℕ → List ℕ → SearchState → List ℤ → List ℕ → SearchState
-streamState ws automaton st xs out = unless (firstMet (streamConditions ws automaton st xs out)) (call (patternsOf ws) st (length out) xs .state) st
+abbrev pub streamState : List ℕ → List ℕ → SearchState → List ℤ → List ℕ → List ℤ → SearchState
+streamState ws automaton st xs out rises = unless (firstMet (streamConditions ws automaton st xs out rises)) (stateAfter st xs (streamCall ws st xs out)) st
 
 -- ---- the first hit of a text: set, automaton and text. Document 02, 2.5
 
@@ -174,12 +194,21 @@ firstEntry ws automaton text =
     let cs : Conditions = searchConditions ws automaton ++ ((9, ltb 1048576 (length text)) ∷ []) in
     record { conditions = cs; counts = firstOf (length text) (hits (patternsOf ws) text); result = [] }
 
--- ---- a filter search: set, text and hit array
+-- ---- a filter search: set, text, hit array and second array
 
--- hits and candidates
-abbrev pub filterEntry : List ℕ → List ℤ → List ℕ → Entry (ℕ × ℕ) ℕ
-filterEntry ws text out =
-    let ps = patternsOf ws in
-    let hs = hits ps text in
-    let cs : Conditions = setConditions ws ++ ((9, ltb 1048576 (length text)) ∷ (11, ltb (length out) (2 * length hs)) ∷ []) in
-    record { conditions = cs; counts = (length hs, candidates ps text); result = hitWords hs }
+abbrev pub filterConditions : List ℕ → List ℤ → List ℕ → List ℤ → Conditions
+filterConditions ws text out rises =
+    setConditions ws ++
+    ((9, ltb 1048576 (length text)) ∷ (10, isShort out rises) ∷ (11, ltb (length out) (2 * length (hits (patternsOf ws) text))) ∷ [])
+
+-- what it writes, by the hits; hits and candidates are counted
+abbrev pub filterWrites : {A : Type 0} → (List (ℕ × ℕ) → List A) → List ℕ → List ℤ → List ℕ → List ℤ → Entry (ℕ × ℕ) A
+filterWrites written ws text out rises =
+    let hs = hits (patternsOf ws) text in
+    record { conditions = filterConditions ws text out rises; counts = (length hs, candidates (patternsOf ws) text); result = written hs }
+
+abbrev pub filterEntry : List ℕ → List ℤ → List ℕ → List ℤ → Entry (ℕ × ℕ) ℕ
+filterEntry ws text out rises = filterWrites hitWords ws text out rises
+
+abbrev pub filterRises : List ℕ → List ℤ → List ℕ → List ℤ → Entry (ℕ × ℕ) ℤ
+filterRises ws text out rises = filterWrites (map (riseIn (patternsOf ws) text)) ws text out rises

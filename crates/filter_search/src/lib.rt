@@ -1,9 +1,11 @@
-// The filter search. Document 01: A tail search.
-ghost use Rattle.lists.specs.Prelude.{_≡_, _*_, _≤_, T, leb, length};
+// The filter search. Document 01: A tail search. Document 02, 2.6 and 2.7.
+ghost use Rattle.lists.specs.Prelude.{_≡_, _++_, map, _*_, _≤_, T, leb, length, drop};
 ghost use Rattle.answers.specs.Told.{toldFiltered};
 ghost use Rattle.pattern_set.specs.PatternSet.{patternsOf, IsSet, maySearch};
 ghost use Rattle.matching.specs.Matching.{hits, candidates};
-ghost use Rattle.entries.specs.Entries.{told, after, filterEntry};
+ghost use Rattle.matching.specs.HitsIn.{hitsIn};
+ghost use Rattle.matching.specs.Rise.{riseIn};
+ghost use Rattle.entries.specs.Entries.{told, after, filterEntry, filterRises};
 ghost use Rattle.filter_windows.specs.Looks.{HitTables};
 ghost use Rattle.filter_passes.specs.Passes.{HitsMarked};
 ghost use Rattle.filter_search.specs.Search.{foundEntry};
@@ -190,26 +192,55 @@ fn search(set: &[u32], text: &[i32], out: &mut [u32]) -> Filtered
     search_by(set, text, &ownlow, &ownhigh, &fits, &numbers, &parents, out)
 }
 
-// The search over a set that may be searched, or the refusal of a text that is too long.
-fn search_text(set: &[u32], text: &[i32], hits: &mut [u32]) -> Filtered
+// The rises over the first n hits of the list in the hit array.
+fn write_rises(set: &[u32], text: &[i32], out: &[u32], n: usize, rises: &mut [i32])
+    requires { ⌜ IsSet (now set) × (2 * n ≤ length (now out)) × (n ≤ length (now rises)) ⌝ }
+    requires { ⌜ hitsIn (now out) n ≡ hits (patternsOf (now set)) (now text) ⌝ }
+    ensures { λ _. ⌜ now (rises .exit)
+        ≡ map (riseIn (patternsOf (now (set .entry))) (now (text .entry))) (hits (patternsOf (now (set .entry))) (now (text .entry)))
+        ++ drop n (now (rises .entry)) ⌝ }
+{
+    let recent = [0i32; 256];
+    compute_rises::write_rises(set, &recent, 0, text, out, n, rises);
+}
+
+// The search over a set that may be searched, with the rises over the hits listed; or the refusal
+// of a text that is too long, or of a second array that is too short.
+fn search_text(set: &[u32], text: &[i32], hits: &mut [u32], rises: &mut [i32]) -> Filtered
     requires { ⌜ IsSet (now set) × T (maySearch (patternsOf (now set))) ⌝ }
-    ensures { λ r. ⌜ toldFiltered r ≡ told (0, 0) (filterEntry (now (set .entry)) (now (text .entry)) (now (hits .entry))) ⌝ }
-    ensures { λ _. ⌜ now (hits .exit) ≡ after (filterEntry (now (set .entry)) (now (text .entry)) (now (hits .entry))) (now (hits .entry)) ⌝ }
+    ensures { λ r. ⌜ toldFiltered r ≡ told (0, 0) (filterEntry (now (set .entry)) (now (text .entry)) (now (hits .entry)) (now (rises .entry))) ⌝ }
+    ensures { λ _. ⌜ now (hits .exit)
+        ≡ after (filterEntry (now (set .entry)) (now (text .entry)) (now (hits .entry)) (now (rises .entry))) (now (hits .entry)) ⌝ }
+    ensures { λ _. ⌜ now (rises .exit)
+        ≡ after (filterRises (now (set .entry)) (now (text .entry)) (now (hits .entry)) (now (rises .entry))) (now (rises .entry)) ⌝ }
 {
     if text.len() > 1048576 {
         return Filtered::Refused(Refusal::TextTooLong);
     }
-    search(set, text, hits)
+    if compute_rises::is_short(hits.len(), rises.len()) {
+        return Filtered::Refused(Refusal::ArrayTooShort);
+    }
+    match search(set, text, hits) {
+        Filtered::Found(n, candidates) => {
+            write_rises(set, text, hits, n, rises);
+            Filtered::Found(n, candidates)
+        }
+        Filtered::Refused(r) => Filtered::Refused(r),
+    }
 }
 
-// Lists the hits of the text, longer pattern first at a place, then lower number; tells how many
-// they are and how many candidates were looked at. Refuses 1 5 15 9 11.
-pub fn filter_search(set: &[u32], text: &[i32], hits: &mut [u32]) -> Filtered
-    ensures { λ r. ⌜ toldFiltered r ≡ told (0, 0) (filterEntry (now (set .entry)) (now (text .entry)) (now (hits .entry))) ⌝ }
-    ensures { λ _. ⌜ now (hits .exit) ≡ after (filterEntry (now (set .entry)) (now (text .entry)) (now (hits .entry))) (now (hits .entry)) ⌝ }
+// Lists the hits of the text, longer pattern first at a place, then lower number, and the rises
+// over them; tells how many they are and how many candidates were looked at. Refuses 1 5 15 9 10
+// 11.
+pub fn filter_search(set: &[u32], text: &[i32], hits: &mut [u32], rises: &mut [i32]) -> Filtered
+    ensures { λ r. ⌜ toldFiltered r ≡ told (0, 0) (filterEntry (now (set .entry)) (now (text .entry)) (now (hits .entry)) (now (rises .entry))) ⌝ }
+    ensures { λ _. ⌜ now (hits .exit)
+        ≡ after (filterEntry (now (set .entry)) (now (text .entry)) (now (hits .entry)) (now (rises .entry))) (now (hits .entry)) ⌝ }
+    ensures { λ _. ⌜ now (rises .exit)
+        ≡ after (filterRises (now (set .entry)) (now (text .entry)) (now (hits .entry)) (now (rises .entry))) (now (rises .entry)) ⌝ }
 {
     match searchable_set::check_searchable(set) {
-        SetSize::Holds(_, _) => search_text(set, text, hits),
+        SetSize::Holds(_, _) => search_text(set, text, hits, rises),
         SetSize::Refused(r) => Filtered::Refused(r),
     }
 }

@@ -6,7 +6,7 @@ ghost use Rattle.answers.specs.Told.{toldWritten, toldNext, toldEncoded, toldSi
 ghost use Rattle.realization.specs.Realization.{leastRealization, failureLengths};
 ghost use Rattle.global_parents.specs.GlobalParents.{globalParents};
 ghost use Rattle.entries.specs.Entries.{told, after, distancesEntry, listEntry, encodeEntry, decodeEntry, emptySetEntry, checkEntry, addEntry, buildEntry};
-ghost use Rattle.entries.specs.Entries.{nextEntry, withdrawEntry, streamEntry, streamState, firstEntry, filterEntry};
+ghost use Rattle.entries.specs.Entries.{nextEntry, withdrawEntry, streamEntry, streamRises, streamState, firstEntry, filterEntry, filterRises};
 use answers::Built;
 use answers::Encoded;
 use answers::Filtered;
@@ -122,22 +122,26 @@ pub fn build_automaton(set: &[u32], out: &mut [u32]) -> Built
 }
 
 // Searches on from a state, at first `SearchState::new()`: takes values until they end or the hit
-// array may be too short for the hits of one more, writes the hits that end at them, and hands the
-// state back. Refuses 1 5 15 7 8 9 10.
+// array may be too short for the hits of one more, writes the hits that end at them and the rises
+// over these, hit by hit, and hands the state back. Refuses 1 5 15 7 8 9 10.
 pub fn stream_search(
     set: &[u32],
     automaton: &[u32],
     state: SearchState,
     values: &[i32],
     hits: &mut [u32],
+    rises: &mut [i32],
 ) -> Streamed
-    ensures { λ r. ⌜ toldStreamed (r .answer)
-        ≡ told (0, 0, 0, 0) (streamEntry (now (set .entry)) (now (automaton .entry)) state (now (values .entry)) (now (hits .entry))) ⌝ }
-    ensures { λ r. ⌜ r .state ≡ streamState (now (set .entry)) (now (automaton .entry)) state (now (values .entry)) (now (hits .entry)) ⌝ }
-    ensures { λ _. ⌜ now (hits .exit)
-        ≡ after (streamEntry (now (set .entry)) (now (automaton .entry)) state (now (values .entry)) (now (hits .entry))) (now (hits .entry)) ⌝ }
+    ensures { λ r. ⌜ toldStreamed (r .answer) ≡ told (0, 0, 0, 0)
+        (streamEntry (now (set .entry)) (now (automaton .entry)) state (now (values .entry)) (now (hits .entry)) (now (rises .entry))) ⌝ }
+    ensures { λ r. ⌜ r .state
+        ≡ streamState (now (set .entry)) (now (automaton .entry)) state (now (values .entry)) (now (hits .entry)) (now (rises .entry)) ⌝ }
+    ensures { λ _. ⌜ now (hits .exit) ≡ after (streamEntry (now (set .entry)) (now (automaton .entry)) state (now (values .entry))
+        (now (hits .entry)) (now (rises .entry))) (now (hits .entry)) ⌝ }
+    ensures { λ _. ⌜ now (rises .exit) ≡ after (streamRises (now (set .entry)) (now (automaton .entry)) state (now (values .entry))
+        (now (hits .entry)) (now (rises .entry))) (now (rises .entry)) ⌝ }
 {
-    stream_search::stream_search(set, automaton, state, values, hits)
+    stream_search::stream_search(set, automaton, state, values, hits, rises)
 }
 
 // Tells the first hit of a whole text, by last place, longer pattern first, then lower number, and
@@ -149,11 +153,14 @@ pub fn first_hit(set: &[u32], automaton: &[u32], text: &[i32]) -> FirstHit
     first_hit::first_hit(set, automaton, text)
 }
 
-// Lists the hits of a whole text: by last place, longer pattern first, then lower number; tells
-// hits and candidates. Refuses 1 5 15 9 11.
-pub fn filter_search(set: &[u32], text: &[i32], hits: &mut [u32]) -> Filtered
-    ensures { λ r. ⌜ toldFiltered r ≡ told (0, 0) (filterEntry (now (set .entry)) (now (text .entry)) (now (hits .entry))) ⌝ }
-    ensures { λ _. ⌜ now (hits .exit) ≡ after (filterEntry (now (set .entry)) (now (text .entry)) (now (hits .entry))) (now (hits .entry)) ⌝ }
+// Lists the hits of a whole text: by last place, longer pattern first, then lower number; writes,
+// hit by hit, the rises over them, and tells hits and candidates. Refuses 1 5 15 9 10 11.
+pub fn filter_search(set: &[u32], text: &[i32], hits: &mut [u32], rises: &mut [i32]) -> Filtered
+    ensures { λ r. ⌜ toldFiltered r ≡ told (0, 0) (filterEntry (now (set .entry)) (now (text .entry)) (now (hits .entry)) (now (rises .entry))) ⌝ }
+    ensures { λ _. ⌜ now (hits .exit)
+        ≡ after (filterEntry (now (set .entry)) (now (text .entry)) (now (hits .entry)) (now (rises .entry))) (now (hits .entry)) ⌝ }
+    ensures { λ _. ⌜ now (rises .exit)
+        ≡ after (filterRises (now (set .entry)) (now (text .entry)) (now (hits .entry)) (now (rises .entry))) (now (rises .entry)) ⌝ }
 {
-    filter_search::filter_search(set, text, hits)
+    filter_search::filter_search(set, text, hits, rises)
 }

@@ -5,7 +5,7 @@ ghost use Rattle.answers.specs.Told.{toldWritten, toldNext, toldEncoded, toldSi
 ghost use Rattle.realization.specs.Realization.{leastRealization, failureLengths};
 ghost use Rattle.global_parents.specs.GlobalParents.{globalParents};
 ghost use Rattle.entries.specs.Entries.{told, after, distancesEntry, listEntry, encodeEntry, decodeEntry, emptySetEntry, checkEntry, addEntry, buildEntry};
-ghost use Rattle.entries.specs.Entries.{nextEntry, withdrawEntry, streamEntry, streamState, firstEntry, filterEntry};
+ghost use Rattle.entries.specs.Entries.{nextEntry, withdrawEntry, streamEntry, streamRises, streamState, firstEntry, filterEntry, filterRises};
 ghost use Rattle.finder_c.specs.Told.{tellsWritten, tellsNext, tellsCode, tellsCounts, tellsStreamed, tellsFirst};
 use answers::Built;
 use answers::Counts;
@@ -352,14 +352,18 @@ pub extern "C" fn finder_stream_search(
     state: SearchState,
     values: &[i32],
     hits: &mut [u32],
+    rises: &mut [i32],
 ) -> FinderStreamed
-    ensures { λ r. ⌜ tellsStreamed r
-        ≡ told (0, 0, 0, 0) (streamEntry (now (set .entry)) (now (automaton .entry)) state (now (values .entry)) (now (hits .entry))) ⌝ }
-    ensures { λ r. ⌜ r .state ≡ streamState (now (set .entry)) (now (automaton .entry)) state (now (values .entry)) (now (hits .entry)) ⌝ }
-    ensures { λ _. ⌜ now (hits .exit)
-        ≡ after (streamEntry (now (set .entry)) (now (automaton .entry)) state (now (values .entry)) (now (hits .entry))) (now (hits .entry)) ⌝ }
+    ensures { λ r. ⌜ tellsStreamed r ≡ told (0, 0, 0, 0)
+        (streamEntry (now (set .entry)) (now (automaton .entry)) state (now (values .entry)) (now (hits .entry)) (now (rises .entry))) ⌝ }
+    ensures { λ r. ⌜ r .state
+        ≡ streamState (now (set .entry)) (now (automaton .entry)) state (now (values .entry)) (now (hits .entry)) (now (rises .entry)) ⌝ }
+    ensures { λ _. ⌜ now (hits .exit) ≡ after (streamEntry (now (set .entry)) (now (automaton .entry)) state (now (values .entry))
+        (now (hits .entry)) (now (rises .entry))) (now (hits .entry)) ⌝ }
+    ensures { λ _. ⌜ now (rises .exit) ≡ after (streamRises (now (set .entry)) (now (automaton .entry)) state (now (values .entry))
+        (now (hits .entry)) (now (rises .entry))) (now (rises .entry)) ⌝ }
 {
-    let s = finder::stream_search(set, automaton, state, values, hits);
+    let s = finder::stream_search(set, automaton, state, values, hits, rises);
     let next = s.state;
     let answer = s.answer;
     streamed(next, answer)
@@ -374,10 +378,18 @@ pub extern "C" fn finder_first_hit(set: &[u32], automaton: &[u32], text: &[i32])
 }
 
 #[no_mangle]
-pub extern "C" fn finder_filter_search(set: &[u32], text: &[i32], hits: &mut [u32]) -> FinderCounts
-    ensures { λ r. ⌜ tellsCounts r ≡ told (0, 0) (filterEntry (now (set .entry)) (now (text .entry)) (now (hits .entry))) ⌝ }
-    ensures { λ _. ⌜ now (hits .exit) ≡ after (filterEntry (now (set .entry)) (now (text .entry)) (now (hits .entry))) (now (hits .entry)) ⌝ }
+pub extern "C" fn finder_filter_search(
+    set: &[u32],
+    text: &[i32],
+    hits: &mut [u32],
+    rises: &mut [i32],
+) -> FinderCounts
+    ensures { λ r. ⌜ tellsCounts r ≡ told (0, 0) (filterEntry (now (set .entry)) (now (text .entry)) (now (hits .entry)) (now (rises .entry))) ⌝ }
+    ensures { λ _. ⌜ now (hits .exit)
+        ≡ after (filterEntry (now (set .entry)) (now (text .entry)) (now (hits .entry)) (now (rises .entry))) (now (hits .entry)) ⌝ }
+    ensures { λ _. ⌜ now (rises .exit)
+        ≡ after (filterRises (now (set .entry)) (now (text .entry)) (now (hits .entry)) (now (rises .entry))) (now (rises .entry)) ⌝ }
 {
-    let f = finder::filter_search(set, text, hits);
+    let f = finder::filter_search(set, text, hits, rises);
     filtered(f)
 }

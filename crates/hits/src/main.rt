@@ -2,18 +2,25 @@
 // prints the hits and the attempts. Document 01: Program `hits`. What it prints comes piece by
 // piece from the crate `hits_pieces`; each piece is written before the next is asked for, and the
 // first write that fails is the last, so that a list that ends with the attempts is complete.
-ghost use Rattle.lists.specs.Prelude.{_≤_, length};
+ghost use Rattle.lists.specs.Prelude.{_*_, _≤_, length};
 use hits_pieces::first;
 use hits_pieces::search;
 
 // Writes the pieces of a search, one after the other, up to the last or to a write that fails.
 // Every piece but the last brings the search nearer to its end.
-fn write_pieces(set: &[u32], automaton: &[u32], text: &[i32], hits: &mut [u32], out: &mut [u8])
-    requires { ⌜ 63 ≤ length (now out) ⌝ }
+fn write_pieces(
+    set: &[u32],
+    automaton: &[u32],
+    text: &[i32],
+    hits: &mut [u32],
+    rises: &mut [i32],
+    out: &mut [u8],
+)
+    requires { ⌜ (63 ≤ length (now out)) × (length (now hits) ≤ 2 * length (now rises)) ⌝ }
 {
     let mut p = search::begin();
     loop {
-        let piece = search::next_piece(set, automaton, text, p, hits, out);
+        let piece = search::next_piece(set, automaton, text, p, hits, rises, out);
         let bytes = piece.bytes;
         if !io::write_all(1, &out[..bytes]) {
             return;
@@ -32,9 +39,10 @@ fn write_answer(
     set: &mut [u32],
     automaton: &mut [u32],
     hits: &mut [u32],
+    rises: &mut [i32],
     out: &mut [u8],
 )
-    requires { ⌜ 63 ≤ length (now out) ⌝ }
+    requires { ⌜ (63 ≤ length (now out)) × (length (now hits) ≤ 2 * length (now rises)) ⌝ }
 {
     let mut values = [0i32; 1023];
     let mut ends = [0u32; 1023];
@@ -54,7 +62,7 @@ fn write_answer(
     }
     if f.more {
         let size = f.size;
-        write_pieces(set, automaton, &text[..size], hits, out);
+        write_pieces(set, automaton, &text[..size], hits, rises, out);
     }
 }
 
@@ -64,7 +72,15 @@ fn main() {
     let mut set = [0u32; 1090];
     let mut automaton = [0u32; 16384];
     let mut hits = [0u32; 8192];
+    let mut rises = [0i32; 4096];
     let mut out = [0u8; 258048];
     let n = io::read_full(0, &mut buf);
-    write_answer(&buf[..n], &mut set, &mut automaton, &mut hits, &mut out);
+    write_answer(
+        &buf[..n],
+        &mut set,
+        &mut automaton,
+        &mut hits,
+        &mut rises,
+        &mut out,
+    );
 }

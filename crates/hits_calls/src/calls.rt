@@ -55,21 +55,22 @@ fn summary_of(a: StreamAnswer) -> Summary
 }
 
 // One call, and the lines of its hits at the front of the lent buffer. Of the hit array the search
-// gets as much as the buffer has lines for.
+// gets as much as the buffer has lines for. The rises over the hits are left in the second array.
 pub fn make_call(
     set: &[u32],
     automaton: &[u32],
     state: SearchState,
     values: &[i32],
     hits: &mut [u32],
+    rises: &mut [i32],
     out: &mut [u8],
 ) -> Step
-    ensures { λ r. ⌜ IsCalled (now (set .entry)) (now (automaton .entry)) state (now (values .entry)) (now (hits .entry)) (now (out .entry))
-        (now (hits .exit)) (now (out .exit)) r ⌝ }
+    ensures { λ r. ⌜ IsCalled (now (set .entry)) (now (automaton .entry)) state (now (values .entry)) (now (hits .entry)) (now (rises .entry))
+        (now (out .entry)) (now (hits .exit)) (now (rises .exit)) (now (out .exit)) r ⌝ }
     ensures { λ r. ⌜ r .bytes ≤ length (now (out .exit)) ⌝ }
 {
     let room = preparing::smaller(hits.len(), 2 * (out.len() / 63));
-    let s = finder::stream_search(set, automaton, state, values, &mut hits[..room]);
+    let s = finder::stream_search(set, automaton, state, values, &mut hits[..room], rises);
     let next = s.state;
     let answer = s.answer;
     let t = summary_of(answer);

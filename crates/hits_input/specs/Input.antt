@@ -1,9 +1,8 @@
 -- What the program `hits` reads: a line per pattern, an empty line, one line of the text. Document
 -- 01: Program `hits`. The bytes are 10 for the newline, 32 for the space, 45 for the minus sign and
 -- 48 to 57 for the digits.
-use lib.IntN.{negsuc}
 use Rattle.lists.specs.Prelude.{Bool, cond, _&&_, Option, none, some, List, [], _∷_, map, flatten, ℕ, zero, suc, _+_, _-_, _*_, eqb, leb, ℤ, pos, length, getD}
-use Rattle.lists.specs.Prelude.{all}
+use Rattle.lists.specs.Prelude.{negsuc, all}
 
 -- what is made of it, if it is there
 abbrev pub andThen : {A B : Type 0} → Option A → (A → Option B) → Option B

@@ -1,6 +1,5 @@
 // The input of the program `hits`, read into lent arrays. Document 01: Program `hits`.
-ghost use lib.IntN.{negsuc};
-ghost use Rattle.lists.specs.Prelude.{_≡_, _+_, _≤_, _<_, length, getD, drop};
+ghost use Rattle.lists.specs.Prelude.{_≡_, _+_, _≤_, _<_, negsuc, length, getD, drop};
 ghost use Rattle.hits_input.specs.Input.{readNumber, readLine};
 ghost use Rattle.hits_input.specs.Read.{IsRead};
 ghost use Rattle.hits_input.specs.Steps.{upTo, next, numbers, sizeOf, isThere, stored, Put, PatternsRead, TextRead};

@@ -1,4 +1,3 @@
 -- The root of the crate's laws.
 pub mod Digits
 pub mod Lines
-pub mod Words

@@ -4,7 +4,8 @@ use Rattle.lists.proofs.Prelude.{take, drop, set, length-append, length-take-le
 use Rattle.lists.proofs.Parts.{map-append, put-behind, paste}
 use Rattle.lists.proofs.Rows.{flatten-append}
 use Rattle.pattern_set.specs.PatternSet.{PatternSet}
-use Rattle.hits_output.specs.Output.{digits, line, hitLine, hitLines, hitIn, hitsIn}
+use Rattle.matching.specs.HitsIn.{hitIn, hitsIn}
+use Rattle.hits_output.specs.Output.{digits, line, hitLine, hitLines}
 
 -- ---- a buffer
 

@@ -1,5 +1,5 @@
 -- What the program `hits` prints of hits and numbers. Document 01: Program `hits`.
-use Rattle.lists.specs.Prelude.{cond, List, [], _∷_, _++_, map, flatten, ℕ, zero, suc, _+_, _*_, _/_, _%_, ltb, length, getD, tabulate}
+use Rattle.lists.specs.Prelude.{cond, List, [], _∷_, _++_, map, flatten, ℕ, zero, suc, _+_, _/_, _%_, ltb, length, getD}
 use Rattle.pattern_set.specs.PatternSet.{PatternSet}
 
 -- a number in decimal, of at most n + 1 digits
@@ -22,14 +22,6 @@ hitLine ps h = line (h .0) (h .1) (length (getD ps (h .1) []))
 -- the lines of a batch of hits
 unfoldable pub hitLines : PatternSet → List (ℕ × ℕ) → List ℕ
 hitLines ps hs = flatten (map (hitLine ps) hs)
-
--- the hit that the words hold at place i: two words a hit
-abbrev pub hitIn : List ℕ → ℕ → ℕ × ℕ
-hitIn ws i = (getD ws (2 * i) 0, getD ws (2 * i + 1) 0)
-
--- the first n hits that the words hold
-unfoldable pub hitsIn : List ℕ → ℕ → List (ℕ × ℕ)
-hitsIn ws n = tabulate n (hitIn ws)
 
 -- ---- the other lines
 

@@ -2,7 +2,8 @@
 // Program `hits`.
 ghost use Rattle.lists.specs.Prelude.{_≡_, [], _∷_, _++_, ℕ, _+_, _*_, _≤_, _<_, length, getD, drop};
 ghost use Rattle.pattern_set.specs.PatternSet.{patternsOf, IsSet};
-ghost use Rattle.hits_output.specs.Output.{digits, line, hitIn, hitsIn, hitLine, hitLines, header, closingLine, refusedLine, badLine};
+ghost use Rattle.matching.specs.HitsIn.{hitIn, hitsIn};
+ghost use Rattle.hits_output.specs.Output.{digits, line, hitLine, hitLines, header, closingLine, refusedLine, badLine};
 
 // How many decimal digits v has.
 fn count_digits(v: u64) -> usize

@@ -1,6 +1,6 @@
 // The pieces of a search: the lines of the hits of one call after the other, and the attempts.
-ghost use Rattle.lists.specs.Prelude.{_≡_, true, false, _≤_, _<_, length};
-ghost use Rattle.hits_calls.specs.Called.{lent};
+ghost use Rattle.lists.specs.Prelude.{_≡_, true, false, _*_, _≤_, _<_, length};
+ghost use Rattle.hits_calls.specs.Called.{hitFront};
 ghost use Rattle.hits_printed.specs.Pieces.{start, nextPiece};
 ghost use Rattle.hits_pieces.specs.Said.{progressOf, IsNext, left};
 use answers::SearchState;
@@ -41,15 +41,16 @@ fn call_once(
     text: &[i32],
     p: Progress,
     hits: &mut [u32],
+    rises: &mut [i32],
     out: &mut [u8],
 ) -> Piece
-    requires { ⌜ (63 ≤ length (now out)) × (p .ended ≡ false) ⌝ }
+    requires { ⌜ (63 ≤ length (now out)) × (p .ended ≡ false) × (length (now hits) ≤ 2 * length (now rises)) ⌝ }
     ensures { λ r. ⌜ IsNext (nextPiece (now (set .entry)) (now (automaton .entry)) (now (text .entry))
-        (length (lent (now (hits .entry)) (now (out .entry)))) (progressOf p)) (now (out .entry)) (now (out .exit)) r ⌝ }
+        (length (hitFront (now (hits .entry)) (now (out .entry)))) (progressOf p)) (now (out .entry)) (now (out .exit)) r ⌝ }
 {
     let state = p.state;
     let from = preparing::smaller(casts::wide(state.taken), text.len());
-    let s = calls::make_call(set, automaton, state, &text[from..], hits, out);
+    let s = calls::make_call(set, automaton, state, &text[from..], hits, rises, out);
     if s.refused > 0 {
         let bytes = hits_output::write_refused(s.refused as u64, out);
         return Piece {
@@ -72,18 +73,20 @@ fn call_once(
 }
 
 // The next piece: the attempts, where the values have ended, else what one call more finds. Of the
-// hit array a call gets as much as the buffer has lines for.
+// hit array a call gets as much as the buffer has lines for. The rises over the hits are not
+// printed.
 pub fn next_piece(
     set: &[u32],
     automaton: &[u32],
     text: &[i32],
     p: Progress,
     hits: &mut [u32],
+    rises: &mut [i32],
     out: &mut [u8],
 ) -> Piece
-    requires { ⌜ 63 ≤ length (now out) ⌝ }
+    requires { ⌜ (63 ≤ length (now out)) × (length (now hits) ≤ 2 * length (now rises)) ⌝ }
     ensures { λ r. ⌜ IsNext (nextPiece (now (set .entry)) (now (automaton .entry)) (now (text .entry))
-        (length (lent (now (hits .entry)) (now (out .entry)))) (progressOf p)) (now (out .entry)) (now (out .exit)) r ⌝ }
+        (length (hitFront (now (hits .entry)) (now (out .entry)))) (progressOf p)) (now (out .entry)) (now (out .exit)) r ⌝ }
     ensures { λ r. ⌜ (r .more ≡ true → left (length (now (text .entry))) (progressOf (r .progress)) < left (length (now (text .entry))) (progressOf p)) ⌝ }
 {
     if p.ended {
@@ -94,5 +97,5 @@ pub fn next_piece(
             progress: p,
         };
     }
-    call_once(set, automaton, text, p, hits, out)
+    call_once(set, automaton, text, p, hits, rises, out)
 }

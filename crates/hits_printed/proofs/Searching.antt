@@ -2,7 +2,8 @@
 -- the reference takes (`call-takes`), at least one value, and its hits are those that the text has
 -- more.
 use Rattle.lists.proofs.Prelude.{_≡_, _∙_, ap, sym, refl, subst, Bool, true, false, cond, List, [], _++_, append-nil, append-assoc, flatten, map, ℕ, zero, suc}
-use Rattle.lists.proofs.Prelude.{_+_, _*_, _%_, _^_, _≤_, _<_, ℤ, eqb, length, length-append, length-replicate, drop, drop-at, replicate, arith, le-ltb, ne-eqb}
+use Rattle.lists.proofs.Prelude.{_+_, _*_, _%_, _^_, _≤_, _<_, ℤ, pos, eqb, length, length-append, length-replicate, drop, drop-at, take, replicate, arith}
+use Rattle.lists.proofs.Prelude.{le-ltb, ne-eqb}
 use Rattle.lists.proofs.Prelude.{length-drop, drop-of-length-le, eqb-refl, eqb-true, eqb-false, le-refl, tabulate}
 use Rattle.lists.proofs.Parts.{map-append}
 use Rattle.lists.proofs.Rows.{flatten-append}
@@ -10,11 +11,11 @@ use Rattle.lists.proofs.Tests.{true-T}
 use Rattle.answers.specs.declared.SearchState.{SearchState}
 use Rattle.pattern_set.specs.PatternSet.{PatternSet, isSet}
 use Rattle.matching.specs.Matching.{hits}
-use Rattle.search_model.specs.Search.{goodState, Called, step, call}
+use Rattle.search_model.specs.Search.{Position, positionOf, goodState, Called, step, call, stateAfter}
 use Rattle.search_model.proofs.Feed.{feed-takes}
 use Rattle.entries.specs.Entries.{firstMet, streamConditions}
 use Rattle.runs.specs.ReferenceRun.{attemptsOn, taking}
-use Rattle.runs.proofs.Step.{Represents, new-represents, represents-good}
+use Rattle.runs.proofs.State.{Stands, stands-new, stands-good, stands-after}
 use Rattle.runs.proofs.Call.{Agrees, call-takes}
 use Rattle.runs.proofs.Taken.{taking-front, attemptsOn-append, attemptsOn-bound}
 use Rattle.hits_output.specs.Output.{hitLine, hitLines, closingLine}
@@ -32,19 +33,19 @@ module _ (set automaton : List ℕ) (text : List ℤ) (room : ℕ) (ps : Pattern
   unfolding nextPiece
   next-closes p e = rw e refl
 
-  abbrev goneOn : Progress → Called SearchState → Progress
-  goneOn p c = record { state = c .state; attempts = (p .attempts + c .attempts) % 2 ^ 64; ended = eqb (c .ended) 1 }
+  abbrev goneOn : Progress → List ℤ → Called Position → Progress
+  goneOn p xs c = record { state = stateAfter (p .state) xs c; attempts = (p .attempts + c .attempts) % 2 ^ 64; ended = eqb (c .ended) 1 }
 
   next-calls : (p : Progress) (xs : List ℤ) → p .ended ≡ false → drop (p .state .taken) text ≡ xs
-      → firstMet (streamConditions set automaton (p .state) xs (replicate room 0)) ≡ 0
-      → nextPiece set automaton text room p
-      ≡ record { text = hitLines ps (call ps (p .state) room xs .hits); more = true; progress = goneOn p (call ps (p .state) room xs) }
+      → firstMet (streamConditions set automaton (p .state) xs (replicate room 0) (replicate room (pos 0))) ≡ 0
+      → let c = call ps (positionOf (p .state)) room xs in
+      nextPiece set automaton text room p ≡ record { text = hitLines ps (c .hits); more = true; progress = goneOn p xs c }
   unfolding nextPiece
   next-calls p xs e d f = rw (e, d, f, s .patterns) refl
 
   -- a call from the state of a search over the front R is accepted
-  call-accepted : (R rest : List ℤ) (st : SearchState) → text ≡ R ++ rest → Represents ps R st
-      → firstMet (streamConditions set automaton st rest (replicate room 0)) ≡ 0
+  call-accepted : (R rest : List ℤ) (st : SearchState) → text ≡ R ++ rest → Stands ps R st
+      → firstMet (streamConditions set automaton st rest (replicate room 0) (replicate room (pos 0))) ≡ 0
   unfolding streamConditions
   call-accepted R rest st t r =
       let l : length R + length rest ≤ 1048576 = omega (arith, ap length t ∙ length-append R rest, short) in
@@ -54,11 +55,13 @@ module _ (set automaton : List ℕ) (text : List ℤ) (room : ℕ) (ps : Pattern
         ne-eqb (length ps) 0 (λ q. let w : ⊥ = omega (arith, s .some) in w),
         s .many,
         s .words,
-        true-T (goodState ps st) (represents-good ps (s .good) (s .some) R st r (omega arith)),
-        r .count,
+        true-T (goodState ps st) (stands-good ps (s .good) (s .some) R st r (omega arith)),
+        r .position .count,
         le-ltb 1048576 (length R + length rest) l,
         length-replicate {A = ℕ} room 0,
+        length-replicate room (pos 0),
         le-ltb room (2 * length ps) enough,
+        le-ltb (2 * room) room (let w : room ≤ 2 * room = omega arith in w),
       ) refl
 
   -- what is printed behind the header
@@ -72,7 +75,7 @@ module _ (set automaton : List ℕ) (text : List ℤ) (room : ℕ) (ps : Pattern
   -- the search has taken R, of which rest is left
   record Reached (p : Progress) (R rest : List ℤ) : Type 0 where
     all : text ≡ R ++ rest
-    state : Represents ps R (p .state)
+    state : Stands ps R (p .state)
     attempts : p .attempts ≡ attemptsOn ps [] R
 
   -- the values have ended
@@ -87,20 +90,20 @@ module _ (set automaton : List ℕ) (text : List ℤ) (room : ℕ) (ps : Pattern
 
   -- one call more
   module _ (p : Progress) (R rest : List ℤ) (r : Reached p R rest) (e : p .ended ≡ false) where
-    abbrev C : Called SearchState
-    C = call ps (p .state) room rest
+    abbrev C : Called Position
+    C = call ps (positionOf (p .state)) room rest
 
     abbrev vs : List ℤ
     vs = taking ps R room rest
 
     abbrev then : Progress
-    then = goneOn p C
+    then = goneOn p rest C
 
     A : Agrees ps R rest C vs
-    A = call-takes ps (s .good) (s .some) rest R (p .state) room (r .state)
+    A = call-takes ps (s .good) (s .some) rest R (positionOf (p .state)) room (r .state .position)
 
     left : drop (p .state .taken) text ≡ rest
-    left = ap (drop (p .state .taken)) (r .all) ∙ drop-at R rest (p .state .taken) (sym (r .state .count))
+    left = ap (drop (p .state .taken)) (r .all) ∙ drop-at R rest (p .state .taken) (sym (r .state .position .count))
 
     gone : Reached then (R ++ vs) (drop (length vs) rest)
     gone =
@@ -110,7 +113,9 @@ module _ (set automaton : List ℕ) (text : List ℤ) (room : ℕ) (ps : Pattern
         (omega (arith, r .attempts, A .attempts)) ∙ sym (attemptsOn-append ps R vs []) in
         let l : length (R ++ vs) ≤ 1048576 = omega (arith, ap length t ∙ length-append (R ++ vs) (drop (length vs) rest), short) in
         let b = attemptsOn-bound ps (s .good) (s .some) (R ++ vs) in
-        record { all = t; state = A .state; attempts = (omega (arith, a, b, l)) }
+        let st = stands-after ps (s .good) (s .some) R rest vs (p .state) C (r .state) (A .state)
+        (A .front ∙ ap (λ (n : ℕ). take n rest) (sym (A .taken))) in
+        record { all = t; state = st; attempts = (omega (arith, a, b, l)) }
 
     called : Rest then (R ++ vs) → Rest p R
     called (tail, printed, e′) = (
@@ -133,7 +138,7 @@ module _ (set automaton : List ℕ) (text : List ℤ) (room : ℕ) (ps : Pattern
 
     -- a call that is handed a value takes one
     takes : 0 < length rest → 0 < length vs
-    takes h = omega (arith, feed-takes (step ps) (2 * length ps) (p .state) room rest enough h, A .taken)
+    takes h = omega (arith, feed-takes (step ps) (2 * length ps) (positionOf (p .state)) room rest enough h, A .taken)
 
     -- the last call
     ends : length vs ≡ length rest → Rest p R
@@ -164,5 +169,5 @@ pub whole-search : (set automaton : List ℕ) (text : List ℤ) (room : ℕ) (ps
 unfolding attemptsOn hits hitLines tabulate flatten
 whole-search set automaton text room ps s short enough =
     let r = search-prints set automaton text room ps s short enough (length text) start [] text (le-refl (length text))
-    (record { all = refl; state = new-represents ps (s .good) (s .some); attempts = refl }) refl in
+    (record { all = refl; state = stands-new ps (s .good) (s .some); attempts = refl }) refl in
     subst (λ (l : List ℕ). Prints set automaton text room (nextPiece set automaton text room start) l) (r .2) (r .1)

@@ -1,11 +1,11 @@
 -- The output of the program `hits`, piece by piece, as its functions leave it in the lent buffer:
 -- what each piece is by the entries' definitions, and the theorem that all of them are what is
 -- printed.
-use Rattle.lists.specs.Prelude.{_≡_, Bool, true, false, cond, Option, none, some, List, [], _++_, ℕ, _+_, _%_, _^_, _≤_, eqb, ℤ, length, drop, replicate}
+use Rattle.lists.specs.Prelude.{_≡_, Bool, true, false, cond, Option, none, some, List, [], _++_, ℕ, _+_, _%_, _^_, _≤_, eqb, ℤ, pos, length, drop, replicate}
 use Rattle.answers.specs.declared.SearchState.{SearchState}
 use Rattle.answers.specs.Told.{newSearch}
 use Rattle.pattern_set.specs.PatternSet.{patternsOf}
-use Rattle.search_model.specs.Search.{call}
+use Rattle.search_model.specs.Search.{positionOf, call, stateAfter}
 use Rattle.entries.specs.Entries.{firstMet, unless, streamConditions}
 use Rattle.hits_input.specs.Input.{Input, readInput}
 use Rattle.hits_output.specs.Output.{header, hitLines, closingLine, refusedLine, badLine}
@@ -54,13 +54,13 @@ firstPiece (some i) set automaton =
 -- ---- the pieces behind it
 
 -- the attempts, where the values have ended; else the lines of the hits of one call more, which has
--- so many words for hits, or its refusal
+-- so many words for hits and as many for rises, or its refusal
 unfoldable pub nextPiece : List ℕ → List ℕ → List ℤ → ℕ → Progress → Piece
 nextPiece set automaton text room p =
     let xs = drop (p .state .taken) text in
-    let c = call (patternsOf set) (p .state) room xs in
-    let r = firstMet (streamConditions set automaton (p .state) xs (replicate room 0)) in
-    let next : Progress = record { state = c .state; attempts = (p .attempts + c .attempts) % 2 ^ 64; ended = eqb (c .ended) 1 } in
+    let c = call (patternsOf set) (positionOf (p .state)) room xs in
+    let r = firstMet (streamConditions set automaton (p .state) xs (replicate room 0) (replicate room (pos 0))) in
+    let next : Progress = record { state = stateAfter (p .state) xs c; attempts = (p .attempts + c .attempts) % 2 ^ 64; ended = eqb (c .ended) 1 } in
     cond (p .ended) (record { text = closingLine (p .attempts); more = false; progress = p })
     (unless r (record { text = hitLines (patternsOf set) (c .hits); more = true; progress = next })
     (record { text = refusedLine r; more = false; progress = p }))

@@ -35,5 +35,5 @@ pub use borrow.Author.Tests.{eq-eqb, le-leb, ne-eqb, lt-leb, not-false, lt-ltb, 
 pub use borrow.Author.Tests.{eqb-false}
 pub use borrow.Author.Count.{below-more, below-none}
 pub use borrow.Author.Needs.{needs}
-pub use Rattle.lists.specs.Prelude.{lastOf, begins}
+pub use Rattle.lists.specs.Prelude.{eqZ, lastOf, begins}
 unfoldable pub use Rattle.lists.specs.Prelude.{tabulate, lastBelow, any, all, select, same, before}

@@ -3,7 +3,14 @@
 pub use mathlib.Core.{Path.{_≡_}, Logic.{_⊎_, _↔_}, Bool.{Bool, true, false, cond, not, _&&_, _||_}, Option.{Option, none, some}}
 pub use mathlib.Core.List.{List, [], _∷_, _++_, map, flatten, foldr, List·Memᴰ}
 pub use Prim.Native.Nat.{ℕ, zero, suc, pred, min, _+_, _-_, _*_, _/_, _%_, _^_, _≤_, _<_}
-pub use lib.{Dec.{T, eqb, leb, ltb}, IntN.{ℤ, pos}, Signed.{leZ, ltZ, _≤ℤ_}, ListN.{length, getD, take, drop, set, replicate}}
+pub use lib.{Dec.{T, eqb, leb, ltb}, IntN.{ℤ, pos, negsuc, _-ℤ_}, Signed.{leZ, ltZ, _≤ℤ_}, ListN.{length, getD, take, drop, set, replicate}}
+
+-- are two integers the same; `negsuc n` is -(n + 1)
+abbrev pub eqZ : ℤ → ℤ → Bool
+eqZ (pos a) (pos b) = eqb a b
+eqZ (pos a) (negsuc b) = false
+eqZ (negsuc a) (pos b) = false
+eqZ (negsuc a) (negsuc b) = eqb a b
 
 -- f 0, f 1, .., f (n - 1)
 unfoldable pub tabulate : {A : Type 0} → ℕ → (ℕ → A) → List A

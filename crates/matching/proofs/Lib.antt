@@ -7,3 +7,5 @@ pub mod Heads
 pub mod HitWords
 pub mod Numbers
 pub mod Withdrawn
+pub mod HitsIn
+pub mod Rise

@@ -1,16 +1,20 @@
 -- THE LAW OF WITHDRAWING: the hits of a set without pattern j are those of the set without the hits
 -- of pattern j, higher numbers one lower. So it is with the numbers that one window gives, hence
--- with those at one place, hence with the whole list.
-use Rattle.lists.proofs.Prelude.{_≡_, _∙_, ap, sym, refl, ap₂, Bool, true, false, cond, not, List, [], _∷_, _++_, map, flatten, ℕ, zero, suc, _+_, _≤_, _<_, ℤ}
-use Rattle.lists.proofs.Prelude.{eqb, length, take, length-map, add-zero, zero-add, arith, ne-eqb, eq-eqb, lt-ltb, le-ltb, lastOf, tabulate, select}
+-- with those at one place, hence with the whole list. The rises over them are what they were, since
+-- the patterns are as long.
+use Rattle.lists.proofs.Prelude.{_≡_, _∙_, ap, sym, refl, subst, ap₂, Bool, true, false, cond, not, List, [], _∷_, _++_, map, flatten, ℕ, zero, suc, pred, _+_}
+use Rattle.lists.proofs.Prelude.{_≤_, _<_, ℤ, pos, T, eqb, length, getD, take, length-map, add-zero, zero-add, decLt, arith, ne-eqb, eq-eqb, lt-ltb, le-ltb}
+use Rattle.lists.proofs.Prelude.{lastOf, tabulate, select}
 use Rattle.lists.proofs.Parts.{map-append}
-use Rattle.lists.proofs.Select.{select-map, select-append}
-use Rattle.lists.proofs.Members.{map-map}
+use Rattle.lists.proofs.Select.{select-map, select-append, mem-select}
+use Rattle.lists.proofs.Members.{map-ext, map-map}
 use Rattle.lists.proofs.Rows.{flatten-tabulate}
 use Rattle.lists.proofs.Counting.{howMany-le, howMany-all}
 use Rattle.pattern_set.specs.PatternSet.{PatternSet, without}
+use Rattle.pattern_set.proofs.Without.{lower-pattern, higher-pattern}
 use Rattle.matching.specs.Matching.{hasTree, numbersFrom, endHits, lastHits, hitsAt, hits}
-use Rattle.matching.specs.Withdrawn.{renumbered, hitsWithout}
+use Rattle.matching.specs.Rise.{riseOver, riseIn}
+use Rattle.matching.specs.Withdrawn.{renumbered, hitsOfOthers, hitsWithout}
 
 -- what is kept of two lists, one after the other
 kept-append : {A B : Type 0} (f : A → B) (test : A → Bool) (xs ys : List A)
@@ -114,6 +118,28 @@ module _ (ps : PatternSet) (j : ℕ) (h : j < length ps) where
   pub hits-without : (text : List ℤ) → hits (without j ps) text ≡ hitsWithout j (hits ps text)
   unfolding hits
   hits-without text = places-without text (length text)
+
+  -- a hit of another pattern is one of the same pattern by the new numbers
+  pattern-moved : (w : ℕ × ℕ) → T (isOther w) → getD (without j ps) (moved w .1) [] ≡ getD ps (w .1) []
+  pattern-moved w t = go (decLt j (w .1)) (decLt (w .1) j)
+    where
+      go : Dec (j < w .1) → Dec (w .1 < j) → getD (without j ps) (renumbered j (w .1)) [] ≡ getD ps (w .1) []
+      go (yes l) d =
+          let e : suc (pred (w .1)) ≡ w .1 = omega arith in
+          rw (lt-ltb j (w .1) l) (higher-pattern ps j h (pred (w .1)) (omega (arith, e)) ∙ ap (λ (i : ℕ). getD ps i []) e)
+      go (no f) (yes l) = rw (le-ltb j (w .1) (omega arith)) (lower-pattern ps j h (w .1) l)
+      go (no f) (no g) = absurd (subst T (ap not (eq-eqb (w .1) j (omega arith))) t)
+
+  -- so its rise is the same
+  pub rises-without : (text : List ℤ) → map (riseIn (without j ps) text) (hits (without j ps) text) ≡ map (riseIn ps text) (hitsOfOthers j (hits ps text))
+  unfolding hitsWithout
+  rises-without text =
+      let others = hitsOfOthers j (hits ps text) in
+      ap (map (riseIn (without j ps) text)) (hits-without text)
+      ∙ map-map moved (riseIn (without j ps) text) others
+      ∙ map-ext (λ w. riseIn (without j ps) text (moved w)) (riseIn ps text) others
+      (λ w m.
+      ap (λ (p : List ℕ). riseOver (λ i. getD text i (pos 0)) (w .0) (length p)) (pattern-moved w (mem-select isOther (hits ps text) w .0 m .1)))
 
   -- they are no more than they were
   pub hits-without-le : (text : List ℤ) → length (hits (without j ps) text) ≤ length (hits ps text)

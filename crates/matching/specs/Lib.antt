@@ -3,3 +3,5 @@ pub mod Matching
 pub mod HitList
 pub mod Withdrawn
 pub mod HeadLengths
+pub mod HitsIn
+pub mod Rise

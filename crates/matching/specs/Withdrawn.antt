@@ -6,6 +6,10 @@ use Rattle.lists.specs.Prelude.{cond, not, List, map, ℕ, pred, eqb, ltb, sele
 abbrev pub renumbered : ℕ → ℕ → ℕ
 renumbered j i = cond (ltb j i) (pred i) i
 
--- the hits that are not of pattern j, in their order and by the new numbers
+-- the hits that are not of pattern j, in their order
+abbrev pub hitsOfOthers : ℕ → List (ℕ × ℕ) → List (ℕ × ℕ)
+hitsOfOthers j hs = select (λ h. not (eqb (h .1) j)) hs
+
+-- and by the new numbers
 unfoldable pub hitsWithout : ℕ → List (ℕ × ℕ) → List (ℕ × ℕ)
-hitsWithout j hs = map (λ h. (h .0, renumbered j (h .1))) (select (λ h. not (eqb (h .1) j)) hs)
+hitsWithout j hs = map (λ h. (h .0, renumbered j (h .1))) (hitsOfOthers j hs)

@@ -86,7 +86,8 @@ fn store_place(places: &mut [u32; 256], counter: usize, place: u32)
     places[counter % 256] = place;
 }
 
-fn store_value(heights: &mut [i32; 256], counter: usize, values: &[i32], i: usize)
+// Puts value i of the call to the slot of a counter.
+pub fn store_value(heights: &mut [i32; 256], counter: usize, values: &[i32], i: usize)
     requires { ⌜ i < length (now values) ⌝ }
     ensures { λ _. ⌜ now (heights .exit) ≡ set (now (heights .entry)) (counter % 256) (getD (now (values .entry)) i (pos 0)) ⌝ }
 {
@@ -122,7 +123,7 @@ pub fn push_minimum(
 }
 
 // The slot of open minimum i, the oldest being 0.
-fn slot_of(first: u8, i: u32) -> usize
+pub fn slot_of(first: u32, i: u32) -> usize
     requires { ⌜ i ≤ 256 ⌝ }
     ensures { λ r. ⌜ r ≡ (first + i) % 256 ⌝ }
 {
@@ -130,7 +131,7 @@ fn slot_of(first: u8, i: u32) -> usize
 }
 
 // The place of open minimum i.
-fn place_at(places: &[u32; 256], first: u8, i: u32) -> u32
+fn place_at(places: &[u32; 256], first: u32, i: u32) -> u32
     requires { ⌜ i ≤ 256 ⌝ }
     ensures { λ r. ⌜ r ≡ getD (now (places .entry)) ((first + i) % 256) 0 ⌝ }
 {
@@ -147,7 +148,7 @@ fn not_lower(heights: &[i32; 256], a: usize, b: usize) -> bool
 }
 
 // Does the open minimum after i have a later place and no smaller value.
-fn next_follows(places: &[u32; 256], heights: &[i32; 256], first: u8, minima: u32, i: u32) -> bool
+fn next_follows(places: &[u32; 256], heights: &[i32; 256], first: u32, minima: u32, i: u32) -> bool
     requires { ⌜ i < 256 ⌝ }
     ensures { λ r. ⌜ r ≡ follows (ringAt minima first (now (places .entry)) (now (heights .entry))) i ⌝ }
 {
@@ -160,7 +161,7 @@ fn next_follows(places: &[u32; 256], heights: &[i32; 256], first: u8, minima: u3
 }
 
 // Do the first n open minima and the one after them have rising places and values that never fall.
-fn are_in_order(places: &[u32; 256], heights: &[i32; 256], first: u8, minima: u32, n: u32) -> bool
+fn are_in_order(places: &[u32; 256], heights: &[i32; 256], first: u32, minima: u32, n: u32) -> bool
     requires { ⌜ n < 256 ⌝ }
     ensures { λ r. ⌜ r ≡ inOrder (ringAt minima first (now (places .entry)) (now (heights .entry))) n ⌝ }
 {
@@ -179,7 +180,7 @@ fn are_in_order(places: &[u32; 256], heights: &[i32; 256], first: u8, minima: u3
 pub fn minima_are_good(
     places: &[u32; 256],
     heights: &[i32; 256],
-    first: u8,
+    first: u32,
     minima: u32,
     taken: u32,
 ) -> bool

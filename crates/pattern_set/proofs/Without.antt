@@ -1,8 +1,9 @@
--- A set without one of its patterns: its sizes, and that it is good where the set was; and that it
--- is the set before, where that pattern is the last.
+-- A set without one of its patterns: its sizes, that it is good where the set was, and its patterns
+-- by the new numbers; and that it is the set before, where that pattern is the last.
 use Rattle.lists.proofs.Prelude.{_≡_, _∙_, ap, sym, subst, ap₂, _⊎_, inl, inr, List, [], _∷_, _++_, append-nil, List·Memᴰ, List·Memᴰ·append-cases, flatten, ℕ}
 use Rattle.lists.proofs.Prelude.{suc, _+_, _-_, _<_, T, length, getD, take, drop, length-append, split-at, take-append-seam, drop-of-length-le, arith}
-use Rattle.lists.proofs.Prelude.{Memᴰ·append-left, Memᴰ·append-right, List·Memᴰ·tail}
+use Rattle.lists.proofs.Prelude.{Memᴰ·append-left, Memᴰ·append-right, List·Memᴰ·tail, _≤_, length-take-le, getD-take, getD-drop, getD-append-add}
+use Rattle.lists.proofs.Prelude.{List·getD-append}
 use Rattle.lists.proofs.Parts.{length-snoc}
 use Rattle.lists.proofs.Members.{all-mem, mem-all}
 use Rattle.lists.proofs.Rows.{flatten-append}
@@ -52,6 +53,22 @@ module _ (ps : PatternSet) (j : ℕ) (h : j < length ps) where
       go : (p : List ℕ) → List·Memᴰ p before ⊎ List·Memᴰ p behind → List·Memᴰ p (before ++ (getD ps j [] ∷ behind))
       go p (inl m) = Memᴰ·append-left (getD ps j [] ∷ behind) m
       go p (inr m) = Memᴰ·append-right before (List·Memᴰ·tail m)
+
+  -- lower numbers stay, higher ones move down by one
+  pub lower-pattern : (i : ℕ) → i < j → getD (without j ps) i [] ≡ getD ps i []
+  unfolding without
+  lower-pattern i l = List·getD-append before behind [] i (omega (arith, length-take-le j ps (omega arith))) ∙ getD-take j ps i [] l
+
+  pub higher-pattern : (i : ℕ) → j ≤ i → getD (without j ps) i [] ≡ getD ps (suc i) []
+  unfolding without
+  higher-pattern i l =
+      let n : length before ≡ j = length-take-le j ps (omega arith) in
+      let e : i ≡ length before + (i - j) = omega (arith, n) in
+      let k : suc j + (i - j) ≡ suc i = omega arith in
+      ap (λ (m : ℕ). getD (before ++ behind) m []) e
+      ∙ getD-append-add before behind (i - j) []
+      ∙ getD-drop (suc j) ps (i - j) []
+      ∙ ap (λ (m : ℕ). getD ps m []) k
 
 -- without the last pattern it is the set before
 pub without-last : (ps : PatternSet) (p : List ℕ) → without (length ps) (ps ++ (p ∷ [])) ≡ ps

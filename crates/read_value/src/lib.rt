@@ -7,7 +7,7 @@ ghost use Rattle.pattern_set.specs.PatternSet.{patternsOf};
 ghost use Rattle.search_model.specs.Ring.{goodRing};
 ghost use Rattle.automaton_lookup.specs.Made.{Whole};
 ghost use Rattle.open_minima.specs.Parts.{ringFrom, AreCounters};
-ghost use Rattle.read_value.specs.Read.{stateFrom, IsRead};
+ghost use Rattle.read_value.specs.Read.{positionAt, IsRead};
 
 // What a value leaves beside the arrays: the counters of the oldest open minimum and behind the
 // newest, the node, and the attempts.
@@ -38,7 +38,7 @@ pub fn read_value(
     requires { ⌜ Whole (now set) (now automaton) k count × (node < count) ⌝ }
     requires { ⌜ AreCounters taken first next × (i < length (now values)) ⌝ }
     requires { ⌜ goodRing taken (ringFrom first next (now places) (now heights)) ≡ true ⌝ }
-    ensures { λ r. ⌜ IsRead (patternsOf (now (set .entry))) (stateFrom taken node first next (now (places .entry)) (now (heights .entry)))
+    ensures { λ r. ⌜ IsRead (patternsOf (now (set .entry))) (positionAt taken node first next (now (places .entry)) (now (heights .entry)))
         (getD (now (values .entry)) i (pos 0)) (now (places .exit)) (now (heights .exit)) r ⌝ }
 {
     if gaps::is_gap(values, i) {

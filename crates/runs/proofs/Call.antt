@@ -2,18 +2,18 @@
 -- and attempts: by induction on the values, one step after the other.
 use Rattle.lists.proofs.Prelude.{_≡_, _∙_, ap, sym, refl, subst, ap₂, inl, inr, _⊎_, Bool, true, false, cond, List, [], _∷_, _++_, map, append-nil}
 use Rattle.lists.proofs.Prelude.{append-assoc, List·Memᴰ, List·Memᴰ·not-nil, List·Memᴰ·append-cases, flatten, ℕ, suc, _+_, _-_, _*_, _≤_, _<_, ℤ, T, eqb, leb}
-use Rattle.lists.proofs.Prelude.{ltb, leb→le, eqb·suc-suc, eqb·zero-suc, le→leb, length, length-map, take-all, take-append-le, arith, le-leb, lt-leb, ltb-true}
+use Rattle.lists.proofs.Prelude.{ltb, leb→le, eqb·suc-suc, eqb·zero-suc, le→leb, length, take, length-map, take-all, take-append-le, arith, le-leb, lt-leb}
+use Rattle.lists.proofs.Prelude.{ltb-true}
 use Rattle.lists.proofs.Prelude.{ltb-false, tabulate, select}
 use Rattle.lists.proofs.Select.{select-empty, select-all, select-append}
 use Rattle.lists.proofs.Members.{mem-map}
 use Rattle.lists.proofs.Tables.{tabulate-ext}
 use Rattle.lists.proofs.Parts.{length-snoc}
 use Rattle.lists.proofs.Rows.{flatten-tabulate}
-use Rattle.answers.specs.declared.SearchState.{SearchState}
 use Rattle.pattern_set.specs.PatternSet.{PatternSet, goodSet}
 use Rattle.matching.specs.Matching.{lastHits, hitsAt, hits}
 use Rattle.matching.proofs.HitsIff.{hits-iff}
-use Rattle.search_model.specs.Search.{step, Called, feed, call, stop, andThen}
+use Rattle.search_model.specs.Search.{Position, step, Called, feed, call, stop, andThen}
 use Rattle.search_model.proofs.Feed.{feed-full, feed-more}
 use Rattle.runs.specs.ReferenceRun.{attemptsOn, taking, hitsOn, longestHead}
 use Rattle.runs.proofs.Attempts.{attempts-bound}
@@ -70,12 +70,13 @@ module _ (ps : PatternSet) (text : List ℤ) (free : ℕ) (x : ℤ) (xs : List �
 
 -- an accepted call c, handed the values xs after the text, takes the values vs as the reference
 -- does
-pub record Agrees (ps : PatternSet) (text xs : List ℤ) (c : Called SearchState) (vs : List ℤ) : Type 0 where
+pub record Agrees (ps : PatternSet) (text xs : List ℤ) (c : Called Position) (vs : List ℤ) : Type 0 where
   pub ended : c .ended ≡ cond (eqb (length vs) (length xs)) 1 0
   pub taken : c .taken ≡ length vs
   pub attempts : c .attempts ≡ attemptsOn ps text vs
   pub state : Represents ps (text ++ vs) (c .state)
   pub within : length vs ≤ length xs
+  pub front : vs ≡ take (length vs) xs
   -- attempts and the growth of the longest head are at most two a value
   pub bound : c .attempts + longestHead ps (text ++ vs) ≤ longestHead ps text + 2 * length vs
   -- its hits are those that the text has more, and end behind the text
@@ -92,7 +93,7 @@ none-later ps text =
     before h l m = omega arith
 
 -- they are the hits that fall on the values
-pub agrees-hits : (ps : PatternSet) (text xs : List ℤ) (c : Called SearchState) (vs : List ℤ) → Agrees ps text xs c vs → c .hits ≡ hitsOn ps text vs
+pub agrees-hits : (ps : PatternSet) (text xs : List ℤ) (c : Called Position) (vs : List ℤ) → Agrees ps text xs c vs → c .hits ≡ hitsOn ps text vs
 unfolding hitsOn
 agrees-hits ps text xs c vs a =
     let test : ℕ × ℕ → Bool = λ h. leb (length text) (h .0) in
@@ -103,7 +104,7 @@ agrees-hits ps text xs c vs a =
     (select-all test (c .hits) (λ h m. le→leb (length text) (h .0) (a .later h m))))
 
 module _ (ps : PatternSet) (g : T (goodSet ps)) (z : 0 < length ps) where
-  agrees-stop : (text xs : List ℤ) (st : SearchState) (e : ℕ) → Represents ps text st → e ≡ cond (eqb 0 (length xs)) 1 0
+  agrees-stop : (text xs : List ℤ) (st : Position) (e : ℕ) → Represents ps text st → e ≡ cond (eqb 0 (length xs)) 1 0
       → Agrees ps text xs (stop st e) []
   unfolding attemptsOn
   agrees-stop text xs st e r f =
@@ -114,12 +115,13 @@ module _ (ps : PatternSet) (g : T (goodSet ps)) (z : 0 < length ps) where
         attempts = refl;
         state = subst (λ (t : List ℤ). Represents ps t st) (sym n) r;
         within = omega arith;
+        front = refl;
         bound = rw n (omega arith);
         more = ap (hits ps) n ∙ sym (append-nil (hits ps text));
         later = λ h m. absurd (List·Memᴰ·not-nil m);
       }
 
-  agrees-then : (text : List ℤ) (st : SearchState) (x : ℤ) (xs : List ℤ) (c : Called SearchState) (vs : List ℤ) → Represents ps text st
+  agrees-then : (text : List ℤ) (st : Position) (x : ℤ) (xs : List ℤ) (c : Called Position) (vs : List ℤ) → Represents ps text st
       → Agrees ps (text ++ (x ∷ [])) xs c vs → Agrees ps text (x ∷ xs) (andThen (step ps st x) c) (x ∷ vs)
   unfolding attemptsOn
   agrees-then text st x xs c vs s a =
@@ -132,6 +134,7 @@ module _ (ps : PatternSet) (g : T (goodSet ps)) (z : 0 < length ps) where
         attempts = ap₂ (λ (m n : ℕ). m + n) t (a .attempts);
         state = subst (λ (l : List ℤ). Represents ps l (c .state)) n (a .state);
         within = omega (arith, a .within);
+        front = ap (λ (l : List ℤ). x ∷ l) (a .front);
         bound = rw (sym n) (omega (arith, a .bound, attempts-bound ps text x g z, t));
         more =
             ap (hits ps) (sym n)
@@ -151,17 +154,17 @@ module _ (ps : PatternSet) (g : T (goodSet ps)) (z : 0 < length ps) where
       from h (inr m) = omega (arith, a .later h m, length-snoc text x)
 
   -- AN ACCEPTED CALL takes what the reference takes
-  pub call-takes : (xs : List ℤ) (text : List ℤ) (st : SearchState) (free : ℕ) → Represents ps text st
+  pub call-takes : (xs : List ℤ) (text : List ℤ) (st : Position) (free : ℕ) → Represents ps text st
       → Agrees ps text xs (call ps st free xs) (taking ps text free xs)
   unfolding feed taking
   call-takes [] text st free r = agrees-stop text [] st 1 r refl
   call-takes (x ∷ xs) text st free r = go (ltb free (2 * length ps)) refl (call-takes xs)
     where
       go : (b : Bool) → ltb free (2 * length ps) ≡ b
-          → ((text : List ℤ) (st : SearchState) (free : ℕ) → Represents ps text st → Agrees ps text xs (call ps st free xs) (taking ps text free xs))
+          → ((text : List ℤ) (st : Position) (free : ℕ) → Represents ps text st → Agrees ps text xs (call ps st free xs) (taking ps text free xs))
           → Agrees ps text (x ∷ xs) (call ps st free (x ∷ xs)) (taking ps text free (x ∷ xs))
       go true e ih =
-          subst (λ (c : Called SearchState). Agrees ps text (x ∷ xs) c (taking ps text free (x ∷ xs)))
+          subst (λ (c : Called Position). Agrees ps text (x ∷ xs) c (taking ps text free (x ∷ xs)))
           (sym (feed-full (step ps) (2 * length ps) st free x xs e))
           (subst (λ (vs : List ℤ). Agrees ps text (x ∷ xs) (stop st 0) vs)
           (sym (taking-full ps text free x xs (ltb-true free (2 * length ps) e))) (agrees-stop text (x ∷ xs) st 0 r
@@ -174,7 +177,7 @@ module _ (ps : PatternSet) (g : T (goodSet ps)) (z : 0 < length ps) where
           let a = ih (text ++ (x ∷ [])) (s .state) (free - 2 * length (s .hits)) (step-state ps g z text st x r) in
           let b : Agrees ps (text ++ (x ∷ [])) xs rest (taking ps (text ++ (x ∷ [])) (free - 2 * length (lastHits ps (text ++ (x ∷ [])))) xs) =
           subst (λ (n : ℕ). Agrees ps (text ++ (x ∷ [])) xs rest (taking ps (text ++ (x ∷ [])) (free - 2 * n) xs)) l a in
-          subst (λ (c : Called SearchState). Agrees ps text (x ∷ xs) c (taking ps text free (x ∷ xs)))
+          subst (λ (c : Called Position). Agrees ps text (x ∷ xs) c (taking ps text free (x ∷ xs)))
           (sym (feed-more (step ps) (2 * length ps) st free x xs e))
           (subst (λ (vs : List ℤ). Agrees ps text (x ∷ xs) (andThen s rest) vs)
           (sym (taking-more ps text free x xs (ltb-false free (2 * length ps) e)))

@@ -8,6 +8,8 @@ pub mod Minima
 pub mod Ring
 pub mod Push
 pub mod Step
+pub mod Recent
+pub mod State
 pub mod Call
 pub mod Taken
 pub mod Run

@@ -14,7 +14,7 @@ use Rattle.gaps.proofs.Laws.{empty-none, front-none, later-none, snoc-none, sno
 use Rattle.answers.specs.Told.{newSearch}
 use Rattle.matching.proofs.Trees.{not-passed, passed-not}
 use Rattle.search_model.specs.Ring.{Ring, placeAt, valueAt, goodRing, cleared}
-use Rattle.search_model.specs.Search.{ringOf}
+use Rattle.search_model.specs.Search.{positionOf}
 use Rattle.search_model.proofs.Minima.{good-from}
 use Rattle.runs.specs.ReferenceRun.{isOpen, openPlaces}
 
@@ -26,7 +26,7 @@ pub record Minima (text : List ℤ) (r : Ring) : Type 0 where
   pub values : tabulate (r .minima) (valueAt r) ≡ map (λ i. getD text i (pos 0)) (openPlaces text)
 
 -- a new search has none
-pub minima-new : Minima [] (ringOf newSearch)
+pub minima-new : Minima [] (positionOf newSearch .ring)
 unfolding tabulate select openPlaces
 minima-new = record {
   first = omega arith;

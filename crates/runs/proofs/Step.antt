@@ -5,7 +5,6 @@ use Rattle.lists.proofs.Prelude.{_≤_, _<_, ℤ, T, eqb, leb, ltb, le→leb, l
 use Rattle.lists.proofs.Prelude.{tabulate}
 use Rattle.lists.proofs.Tests.{and-join, or-left, or-right, T-true}
 use Rattle.lists.proofs.Parts.{length-lastOf, lastOf-zero}
-use Rattle.answers.specs.declared.SearchState.{SearchState}
 use Rattle.answers.specs.Told.{newSearch}
 use Rattle.gaps.specs.Gaps.{isGap, holdsGap}
 use Rattle.gaps.proofs.Laws.{lastOf-none}
@@ -17,7 +16,7 @@ use Rattle.matching.specs.Matching.{lastHits, isHead, failure}
 use Rattle.matching.proofs.Heads.{headTree-whole, headTree-isHead}
 use Rattle.automaton_model.specs.Automaton.{nodes, headOf, nodeOf, extended, advanceWithin, advance, listed}
 use Rattle.search_model.specs.Ring.{goodRing, distanceOf, pushed}
-use Rattle.search_model.specs.Search.{ringOf, goodState, sampled, step}
+use Rattle.search_model.specs.Search.{Position, positionOf, goodPosition, sampled, step}
 use Rattle.search_model.proofs.Feed.{step-cases}
 use Rattle.automaton_model.proofs.Nodes.{head-node, head-length, node-root, failure-shorter}
 use Rattle.pattern_set.proofs.Good.{good-realizable}
@@ -34,9 +33,9 @@ abbrev pub reached : PatternSet → List ℤ → List ℕ
 reached ps text = distances (lastOf (longestHead ps text) text)
 
 -- the state is that of a search over the text
-pub record Represents (ps : PatternSet) (text : List ℤ) (st : SearchState) : Type 0 where
+pub record Represents (ps : PatternSet) (text : List ℤ) (st : Position) : Type 0 where
   pub count : st .taken ≡ length text
-  pub minima : Minima text (ringOf st)
+  pub minima : Minima text (st .ring)
   pub node : st .node ≡ nodeOf ps (reached ps text)
 
 empty-least : (h : List ℕ) → length h ≤ 0 → leastRealization h ≡ []
@@ -64,7 +63,7 @@ module _ (ps : PatternSet) (g : T (goodSet ps)) (z : 0 < length ps) where
   pub length-reached : (text : List ℤ) → length (reached ps text) ≡ longestHead ps text
   length-reached text = length-distances (lastOf (longestHead ps text) text) ∙ length-lastOf (longestHead ps text) text (longestHead-le ps text)
 
-  pub node-reached : (text : List ℤ) (st : SearchState) → Represents ps text st → headOf ps (st .node) ≡ reached ps text
+  pub node-reached : (text : List ℤ) (st : Position) → Represents ps text st → headOf ps (st .node) ≡ reached ps text
   node-reached text st r = ap (headOf ps) (r .node) ∙ head-node ps g (reached ps text) (reached-head text) .1
 
   -- a head of 256 distances has no continuation, so what is not the same there is not seen
@@ -109,14 +108,14 @@ module _ (ps : PatternSet) (g : T (goodSet ps)) (z : 0 < length ps) where
       go false q ih = ap (λ (r : List ℕ × ℕ). (r .0, suc (r .1))) ih
 
   -- the head reached and the attempts made by one sample
-  pub advance-state : (text : List ℤ) (st : SearchState) (x : ℤ) → isGap x ≡ false → Represents ps text st
-      → advance ps (headOf ps (st .node)) (distanceOf (st .taken) (ringOf st) x) ≡ (reached ps (text ++ (x ∷ [])), attempts ps text x)
+  pub advance-state : (text : List ℤ) (st : Position) (x : ℤ) → isGap x ≡ false → Represents ps text st
+      → advance ps (headOf ps (st .node)) (distanceOf (st .taken) (st .ring) x) ≡ (reached ps (text ++ (x ∷ [])), attempts ps text x)
   advance-state text st x o r =
       let D = distanceAt (text ++ (x ∷ [])) (length text) in
-      let d = distanceOf (length text) (ringOf st) x in
-      ap₂ (λ (h : List ℕ) (t : ℕ). advance ps h (distanceOf t (ringOf st) x)) (node-reached text st r) (r .count)
+      let d = distanceOf (length text) (st .ring) x in
+      ap₂ (λ (h : List ℕ) (t : ℕ). advance ps h (distanceOf t (st .ring) x)) (node-reached text st r) (r .count)
       ∙ advance-same (length (reached ps text)) (reached ps text) d D (le-refl (length (reached ps text)))
-      (λ m a b. let l : m ≤ longestHead ps text = omega (arith, length-reached text) in distance-cut text (ringOf st) x (r .minima) m a
+      (λ m a b. let l : m ≤ longestHead ps text = omega (arith, length-reached text) in distance-cut text (st .ring) x (r .minima) m a
       (omega (arith, longestHead-le ps text)) (lastOf-none m (longestHead ps text) text l (reached-whole text)))
       ∙ advance-is ps text x D o g z (λ m l. refl)
       ∙ ap (λ (n : ℕ). (distances (lastOf n (text ++ (x ∷ []))), attempts ps text x)) (sym (longestHead-step ps text x o g z))
@@ -130,7 +129,7 @@ module _ (ps : PatternSet) (g : T (goodSet ps)) (z : 0 < length ps) where
 
   -- ONE STEP: hits and attempts are those of the reference, and the state represents the text with
   -- the value
-  pub step-hits : (text : List ℤ) (st : SearchState) (x : ℤ) → Represents ps text st
+  pub step-hits : (text : List ℤ) (st : Position) (x : ℤ) → Represents ps text st
       → step ps st x .hits ≡ map (λ j. (length text, j)) (lastHits ps (text ++ (x ∷ [])))
   unfolding sampled
   step-hits text st x r =
@@ -140,36 +139,36 @@ module _ (ps : PatternSet) (g : T (goodSet ps)) (z : 0 < length ps) where
       (λ o. ap₂ (λ (t : ℕ) (h : List ℕ). map (λ j. (t, j)) (listed ps h)) (r .count) (ap (λ (p : List ℕ × ℕ). p .0) (advance-state text st x o r))
       ∙ ap (map (λ j. (length text, j))) (listed-is ps (text ++ (x ∷ [])) g z))
 
-  pub step-attempts : (text : List ℤ) (st : SearchState) (x : ℤ) → Represents ps text st → step ps st x .attempts ≡ attempts ps text x
+  pub step-attempts : (text : List ℤ) (st : Position) (x : ℤ) → Represents ps text st → step ps st x .attempts ≡ attempts ps text x
   unfolding sampled
   step-attempts text st x r =
       step-cases ps st x (λ s. s .attempts ≡ attempts ps text x)
       (λ o. sym (attempts-gap ps text x o))
       (λ o. ap (λ (p : List ℕ × ℕ). p .1) (advance-state text st x o r))
 
-  pub step-state : (text : List ℤ) (st : SearchState) (x : ℤ) → Represents ps text st → Represents ps (text ++ (x ∷ [])) (step ps st x .state)
+  pub step-state : (text : List ℤ) (st : Position) (x : ℤ) → Represents ps text st → Represents ps (text ++ (x ∷ [])) (step ps st x .state)
   unfolding sampled
   step-state text st x r =
       let more = ap (λ (n : ℕ). n + 1) (r .count) ∙ sym (length-append text (x ∷ [])) in
       step-cases ps st x (λ s. Represents ps (text ++ (x ∷ [])) (s .state))
       (λ o. record {
         count = more;
-        minima = minima-cleared text (ringOf st) x o (r .minima);
+        minima = minima-cleared text (st .ring) x o (r .minima);
         node = sym (ap (nodeOf ps) (reached-gap text x o) ∙ node-root ps g z .1);
       })
       (λ o. record {
         count = more;
-        minima = subst (λ (n : ℕ). Minima (text ++ (x ∷ [])) (pushed n (ringOf st) x)) (sym (r .count)) (minima-pushed text (ringOf st) x o (r .minima));
+        minima = subst (λ (n : ℕ). Minima (text ++ (x ∷ [])) (pushed n (st .ring) x)) (sym (r .count)) (minima-pushed text (st .ring) x o (r .minima));
         node = ap (λ (p : List ℕ × ℕ). nodeOf ps (p .0)) (advance-state text st x o r);
       })
 
   -- a new search represents the empty text
-  pub new-represents : Represents ps [] newSearch
+  pub new-represents : Represents ps [] (positionOf newSearch)
   new-represents = record { count = refl; minima = minima-new; node = sym (ap (nodeOf ps) (distances-nil (longestHead ps [])) ∙ node-root ps g z .1) }
 
   -- a state that represents a text passes check 8
-  pub represents-good : (text : List ℤ) (st : SearchState) → Represents ps text st → length text ≤ 1048576 → T (goodState ps st)
-  unfolding goodState
+  pub represents-good : (text : List ℤ) (st : Position) → Represents ps text st → length text ≤ 1048576 → T (goodPosition ps st)
+  unfolding goodPosition
   represents-good text st r l =
       let n = head-node ps g (reached ps text) (reached-head text) in
       let a : T (ltb (st .node) (length (nodes ps))) = lt→ltb (st .node) (length (nodes ps))
@@ -179,21 +178,21 @@ module _ (ps : PatternSet) (g : T (goodSet ps)) (z : 0 < length ps) where
       (subst (λ (h : List ℕ). length h ≤ st .taken) (sym (node-reached text st r))
       (omega (arith, length-reached text, longestHead-le ps text, r .count))) in
       let c : T (leb (st .taken) 1048576) = le→leb (st .taken) 1048576 (omega (arith, r .count)) in
-      let ring = goodRing (st .taken) (ringOf st) in
-      let d : T ring = subst (λ (n : ℕ). T (goodRing n (ringOf st))) (sym (r .count)) (minima-good text (ringOf st) (r .minima)) in
+      let ring = goodRing (st .taken) (st .ring) in
+      let d : T ring = subst (λ (n : ℕ). T (goodRing n (st .ring))) (sym (r .count)) (minima-good text (st .ring) (r .minima)) in
       let inside = ltb (st .node) (length (nodes ps)) in
       let deep = leb (length (headOf ps (st .node))) (st .taken) in
       let few = leb (st .taken) 1048576 in
-      and-join (inside && deep && few && ring) (ltb 0 (st .minima) || eqb (st .node) 0)
+      and-join (inside && deep && few && ring) (ltb 0 (st .ring .minima) || eqb (st .node) 0)
       (and-join (inside && deep && few) ring (and-join (inside && deep) few (and-join inside deep a b) c) d)
       (some (decLt 0 (longestHead ps text)))
     where
-      some : Dec (0 < longestHead ps text) → T (ltb 0 (st .minima) || eqb (st .node) 0)
+      some : Dec (0 < longestHead ps text) → T (ltb 0 (st .ring .minima) || eqb (st .node) 0)
       some (yes h) =
-          or-left (ltb 0 (st .minima)) (eqb (st .node) 0) (lt→ltb 0 (st .minima)
-          (minima-some text (ringOf st) (r .minima) (omega (arith, longestHead-le ps text)) (lastOf-none 1 (longestHead ps text) text h (reached-whole text))))
+          or-left (ltb 0 (st .ring .minima)) (eqb (st .node) 0) (lt→ltb 0 (st .ring .minima)
+          (minima-some text (st .ring) (r .minima) (omega (arith, longestHead-le ps text)) (lastOf-none 1 (longestHead ps text) text h (reached-whole text))))
       some (no f) =
           let e : longestHead ps text ≡ 0 = omega arith in
           let empty : reached ps text ≡ [] = ap (λ (n : ℕ). distances (lastOf n text)) e ∙ ap distances (lastOf-zero text) ∙ distances-nil 0 in
           let root : st .node ≡ 0 = r .node ∙ ap (nodeOf ps) empty ∙ node-root ps g z .1 in
-          or-right (ltb 0 (st .minima)) (eqb (st .node) 0) (T-true (eqb (st .node) 0) (eq-eqb (st .node) 0 root))
+          or-right (ltb 0 (st .ring .minima)) (eqb (st .node) 0) (T-true (eqb (st .node) 0) (eq-eqb (st .node) 0 root))

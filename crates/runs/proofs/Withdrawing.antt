@@ -1,7 +1,8 @@
 -- THE WITHDRAWAL THEOREM: an accepted withdrawal leaves a set array of the other patterns, whose
--- hits are the old ones without those of the pattern withdrawn; what the searches write follows.
-use Rattle.lists.proofs.Prelude.{_≡_, _∙_, ap, sym, refl, subst, List, [], _∷_, _++_, flatten, ℕ, suc, _≤_, _<_, ℤ, T, length, take, drop, take-length}
-use Rattle.lists.proofs.Prelude.{take-all, arith, begins}
+-- hits are the old ones without those of the pattern withdrawn, with the same rises over them; what
+-- the searches write follows.
+use Rattle.lists.proofs.Prelude.{_≡_, _∙_, ap, sym, refl, subst, List, [], _∷_, _++_, map, flatten, ℕ, suc, _≤_, _<_, ℤ, T, length, take, drop}
+use Rattle.lists.proofs.Prelude.{take-length, take-all, arith, begins}
 use Rattle.lists.proofs.Parts.{length-snoc}
 use Rattle.lists.proofs.Same.{same-eq}
 use Rattle.answers.specs.declared.SearchState.{SearchState}
@@ -12,15 +13,16 @@ use Rattle.pattern_set.proofs.IsSet.{set-begins}
 use Rattle.pattern_set.proofs.MaySearch.{maySearch-without}
 use Rattle.pattern_set.proofs.Without.{without-last}
 use Rattle.matching.specs.Matching.{hits, hitWords, candidates}
+use Rattle.matching.specs.Rise.{riseIn}
 use Rattle.matching.specs.Withdrawn.{hitsWithout}
-use Rattle.matching.proofs.Withdrawn.{hits-without, hits-without-le}
-use Rattle.entries.specs.Entries.{firstMet, told, after, checkEntry, addEntry, withdrawEntry, filterEntry}
+use Rattle.matching.proofs.Withdrawn.{hits-without, rises-without, hits-without-le}
+use Rattle.entries.specs.Entries.{firstMet, told, after, checkEntry, addEntry, withdrawEntry, filterConditions, filterEntry, filterRises}
 use Rattle.entries.proofs.Refusals.{tells, left-accepted}
 use Rattle.entries.proofs.Filter.{filter-given, filter-accepted}
 use Rattle.entries.proofs.Sets.{Holds, add-given, add-holds, withdraw-given, withdraw-accepted, withdraw-holds}
 use Rattle.runs.specs.ReferenceRun.{Call, taken}
-use Rattle.runs.specs.Demands.{Admitted, nextState, observe, written}
-use Rattle.runs.specs.Withdrawing.{Withdrawn, GivenBack, WithdrawalTheorem}
+use Rattle.runs.specs.Demands.{Admitted, nextState, observe, written, risen}
+use Rattle.runs.specs.Withdrawing.{risesOfOthers, Withdrawn, GivenBack, WithdrawalTheorem}
 use Rattle.runs.proofs.Run.{run-theorem}
 
 length-observe : (ps : PatternSet) (st : SearchState) (cs : List Call) → length (observe ps st cs) ≡ length cs
@@ -40,6 +42,10 @@ module _ (ws : List ℕ) (j : ℕ) (e : firstMet (withdrawEntry ws j .conditions
   list-left : (text : List ℤ) → hits (patternsOf left) text ≡ hitsWithout j (hits (patternsOf ws) text)
   list-left text = ap (λ (ps : PatternSet). hits ps text) (held .patterns) ∙ hits-without (patternsOf ws) j (withdraw-given ws j e .1) text
 
+  rises-left : (text : List ℤ) → map (riseIn (patternsOf left) text) (hits (patternsOf left) text) ≡ risesOfOthers ws j text
+  rises-left text =
+      ap (λ (ps : PatternSet). map (riseIn ps text) (hits ps text)) (held .patterns) ∙ rises-without (patternsOf ws) j (withdraw-given ws j e .1) text
+
   list-le : (text : List ℤ) → length (hits (patternsOf left) text) ≤ length (hits (patternsOf ws) text)
   list-le text = rw (held .patterns) (hits-without-le (patternsOf ws) j (withdraw-given ws j e .1) text)
 
@@ -51,35 +57,49 @@ module _ (ws : List ℕ) (j : ℕ) (e : firstMet (withdrawEntry ws j .conditions
       (maySearch-without (patternsOf ws) j (withdraw-given ws j e .1) (subst (λ (ps : PatternSet). 0 < length ps) q z) t)
 
   -- a filter search needs no more room than before
-  filter-left : 0 < length (patternsOf left) → (text : List ℤ) (out : List ℕ) → firstMet (filterEntry ws text out .conditions) ≡ 0
+  filter-left : 0 < length (patternsOf left) → (text : List ℤ) (out : List ℕ) (second : List ℤ) → firstMet (filterConditions ws text out second) ≡ 0
       → let new = hitsWithout j (hits (patternsOf ws) text) in
-      (told (0, 0) (filterEntry left text out) ≡ (0, (length new, candidates (patternsOf left) text)))
-      × (after (filterEntry left text out) out ≡ hitWords new ++ drop (length (hitWords new)) out)
-  filter-left z text out f =
-      let g = filter-given ws text out f in
-      let a = filter-accepted left text out (held .good) (may-left z (g .0)) (g .1) (omega (arith, list-le text, g .2)) in
-      let E = filterEntry left text out in
+      (told (0, 0) (filterEntry left text out second) ≡ (0, (length new, candidates (patternsOf left) text)))
+      × (after (filterEntry left text out second) out ≡ hitWords new ++ drop (length (hitWords new)) out)
+      × (after (filterRises left text out second) second ≡ risesOfOthers ws j text ++ drop (length (risesOfOthers ws j text)) second)
+  filter-left z text out second f =
+      let g = filter-given ws text out second f in
+      let a = filter-accepted left text out second (held .good) (may-left z (g .0)) (g .1) (g .2) (omega (arith, list-le text, g .3)) in
+      let E = filterEntry left text out second in
       let n : ℕ = candidates (patternsOf left) text in
       let c : _≡_ {A = ℕ × ℕ} (length (hitsWithout j (hits (patternsOf ws) text)), n) (E .counts) =
       ap (λ (hs : List (ℕ × ℕ)). (length hs, n)) (sym (list-left text)) in (
         sym (tells (0, 0) E (length (hitsWithout j (hits (patternsOf ws) text)), n) a c),
         sym (left-accepted (0, 0) E out a) ∙ ap (λ (hs : List (ℕ × ℕ)). hitWords hs ++ drop (length (hitWords hs)) out) (list-left text),
+        sym (left-accepted (0, 0) (filterRises left text out second) second a)
+            ∙ ap (λ (rs : List ℤ). rs ++ drop (length rs) second) (rises-left text),
       )
 
-  -- the calls of a stream search write the hits of the text that they take
+  -- the calls of a stream search write the hits of the text that they take, and the rises over them
   stream-left : T (maySearch (patternsOf left)) → (cs : List Call) → Admitted (patternsOf left) newSearch cs
-      → written (observe (patternsOf left) newSearch cs) ≡ hitWords (hitsWithout j (hits (patternsOf ws) (taken (patternsOf left) [] cs)))
+      → let text = taken (patternsOf left) [] cs in
+      let seen = observe (patternsOf left) newSearch cs in
+      (written seen ≡ hitWords (hitsWithout j (hits (patternsOf ws) text))) × (risen seen ≡ risesOfOthers ws j text)
   stream-left t cs a =
       let ps = patternsOf left in
       let seen = observe ps newSearch cs in
       let r = run-theorem ps t cs a (length cs) in
-      ap written (sym (take-all (length cs) seen (omega (arith, length-observe ps newSearch cs))))
-      ∙ r .list
-      ∙ ap (λ (ds : List Call). hitWords (hits ps (taken ps [] ds))) (take-length cs)
-      ∙ ap hitWords (list-left (taken ps [] cs))
+      let all : seen ≡ take (length cs) seen = sym (take-all (length cs) seen (omega (arith, length-observe ps newSearch cs))) in
+      let text : taken ps [] (take (length cs) cs) ≡ taken ps [] cs = ap (taken ps []) (take-length cs) in (
+        ap written all ∙ r .list ∙ ap (λ (l : List ℤ). hitWords (hits ps l)) text ∙ ap hitWords (list-left (taken ps [] cs)),
+        ap risen all ∙ r .rises ∙ ap (λ (l : List ℤ). map (riseIn ps l) (hits ps l)) text ∙ rises-left (taken ps [] cs),
+      )
 
   withdrawn : Withdrawn ws j left
-  withdrawn = record { good = held .good; patterns = held .patterns; list = list-left; searched = may-left; filtered = filter-left; streamed = stream-left }
+  withdrawn = record {
+    good = held .good;
+    patterns = held .patterns;
+    list = list-left;
+    rises = rises-left;
+    searched = may-left;
+    filtered = filter-left;
+    streamed = stream-left;
+  }
 
 -- ---- an accepted add, taken back
 

@@ -11,11 +11,13 @@ use Rattle.ranking.specs.Rank.{rank, isRank}
 use Rattle.pattern_set.specs.PatternSet.{PatternSet, goodSet, maySearch, setWords, IsSet, patternsOf}
 use Rattle.matching.specs.Matching.{hits, hitWords, candidates}
 use Rattle.matching.specs.HitList.{IsHitList}
+use Rattle.matching.specs.Rise.{riseIn}
 use Rattle.automaton_model.specs.Automaton.{headOf}
 use Rattle.search_model.specs.Ring.{placeAt, valueAt}
-use Rattle.search_model.specs.Search.{ringOf}
-use Rattle.entries.specs.Entries.{Entry, firstMet, told, after, Counts, setConditions, streamConditions, streamEntry, streamState, filterEntry}
-use Rattle.runs.specs.ReferenceRun.{Call, Seen, isLent, reference, taken, longestHead, openPlaces}
+use Rattle.search_model.specs.Search.{positionOf}
+use Rattle.entries.specs.Entries.{Entry, firstMet, told, after, Counts, setConditions, streamConditions, streamEntry, streamRises}
+use Rattle.entries.specs.Entries.{streamState, filterEntry, filterRises}
+use Rattle.runs.specs.ReferenceRun.{Call, Seen, isLent, reference, taken, longestHead, openPlaces, recentOf}
 
 -- Demand 1. The entries ask nothing of their callers, and each refuses on the conditions that
 -- `entries` lists for it. A refused call
@@ -24,7 +26,8 @@ pub record Demand1 : Type 1 where
   pub tells : {C A : Type 0} (zeros : C) (e : Entry C A) → 0 < firstMet (e .conditions) → told zeros e ≡ (firstMet (e .conditions), zeros)
   -- leaves every word as it was, and hands the state back as given
   pub leaves : {C A : Type 0} (e : Entry C A) (array : List A) → 0 < firstMet (e .conditions) → after e array ≡ array
-  pub handsBack : (ws am out : List ℕ) (st : SearchState) (xs : List ℤ) → 0 < firstMet (streamConditions ws am st xs out) → streamState ws am st xs out ≡ st
+  pub handsBack : (ws am out : List ℕ) (st : SearchState) (xs rises : List ℤ)
+      → 0 < firstMet (streamConditions ws am st xs out rises) → streamState ws am st xs out rises ≡ st
   -- The tests in the conditions decide what document 01 says. A list of distances passes exactly if
   -- some values have it; a code exactly if a realizable list of that length has it; a set array
   -- exactly if it begins with the words of a good set; and it passes as one to be searched exactly
@@ -52,14 +55,19 @@ pub record Demand2 : Type 0 where
 -- ---- what the entry's promise says of each call, given the state that the one before handed back
 
 abbrev pub entryOf : SearchState → Call → Entry Counts ℕ
-entryOf st c = streamEntry (c .set) (c .automaton) st (c .values) (c .hits)
+entryOf st c = streamEntry (c .set) (c .automaton) st (c .values) (c .hits) (c .rises)
+
+abbrev pub secondOf : SearchState → Call → Entry Counts ℤ
+secondOf st c = streamRises (c .set) (c .automaton) st (c .values) (c .hits) (c .rises)
 
 -- of a call that is lent another set only that it is refused is seen
 abbrev pub observeCall : PatternSet → SearchState → Call → Seen
-observeCall ps st c = record { tells = cond (isLent ps c) (some (told (0, 0, 0, 0) (entryOf st c))) none; leaves = after (entryOf st c) (c .hits) }
+observeCall ps st c =
+    let tells : Option (ℕ × Counts) = cond (isLent ps c) (some (told (0, 0, 0, 0) (entryOf st c))) none in
+    record { tells = tells; leaves = after (entryOf st c) (c .hits); rises = after (secondOf st c) (c .rises) }
 
 abbrev pub nextState : SearchState → Call → SearchState
-nextState st c = streamState (c .set) (c .automaton) st (c .values) (c .hits)
+nextState st c = streamState (c .set) (c .automaton) st (c .values) (c .hits) (c .rises)
 
 unfoldable pub observe : PatternSet → SearchState → List Call → List Seen
 observe ps st [] = []
@@ -87,6 +95,11 @@ unfoldable pub written : List Seen → List ℕ
 written [] = []
 written (s ∷ ss) = take (2 * toldOr0 (λ t. t .1 .2) (s .tells)) (s .leaves) ++ written ss
 
+-- the rises
+unfoldable pub risen : List Seen → List ℤ
+risen [] = []
+risen (s ∷ ss) = take (toldOr0 (λ t. t .1 .2) (s .tells)) (s .rises) ++ risen ss
+
 -- the attempts of all calls
 unfoldable pub attemptsOf : List Seen → ℕ
 attemptsOf [] = 0
@@ -95,7 +108,8 @@ attemptsOf (s ∷ ss) = toldOr0 (λ t. t .1 .3) (s .tells) + attemptsOf ss
 -- what holds of the calls under the set that were seen so, took the values R and handed back the
 -- state st
 pub record Run (ps : PatternSet) (cs : List Call) (seen : List Seen) (R : List ℤ) (st : SearchState) : Type 0 where
-  -- hits, order, ended or full, values taken and attempts are the reference run's, call by call
+  -- hits, order, rises, ended or full, values taken and attempts are the reference run's, call by
+  -- call
   pub same : seen ≡ reference ps [] cs
   -- no call that is lent the set is refused under 8
   pub never : (s : Seen) → List·Memᴰ s seen → toldOr0 (λ t. t .0) (s .tells) ≡ 8 → ⊥
@@ -104,17 +118,21 @@ pub record Run (ps : PatternSet) (cs : List Call) (seen : List Seen) (R : List �
   -- the state handed back, from the text alone
   pub count : st .taken ≡ length R
   pub node : headOf ps (st .node) ≡ distances (lastOf (longestHead ps R) R)
-  pub places : tabulate (st .minima) (placeAt (ringOf st)) ≡ openPlaces R
-  pub values : tabulate (st .minima) (valueAt (ringOf st)) ≡ map (λ i. getD R i (pos 0)) (openPlaces R)
+  pub places : tabulate (st .minima) (placeAt (positionOf st .ring)) ≡ openPlaces R
+  pub values : tabulate (st .minima) (valueAt (positionOf st .ring)) ≡ map (λ i. getD R i (pos 0)) (openPlaces R)
+  pub recent : st .recent ≡ recentOf R
   -- what the calls wrote, one after the other, are the hits of the text: one for each pair of
   -- pattern and window with equal trees, by last place, longer pattern first, then lower number
   pub list : written seen ≡ hitWords (hits ps R)
   pub pairs : IsHitList ps R (hits ps R)
-  -- and a filter search of the set over the same values, with an array that holds its list, writes
-  -- the same list
-  pub filtered : (ws out : List ℕ) → length (hitWords (hits ps R)) ≤ length out
-      → (told (0, 0) (filterEntry (setWords ps ++ ws) R out) ≡ (0, (length (hits ps R), candidates ps R)))
-      × (after (filterEntry (setWords ps ++ ws) R out) out ≡ written seen ++ drop (length (written seen)) out)
+  -- and the rises over them
+  pub rises : risen seen ≡ map (riseIn ps R) (hits ps R)
+  -- and a filter search of the set over the same values, with an array that holds its list and a
+  -- second one as long as 10 asks, writes the same list and the same rises
+  pub filtered : (ws out : List ℕ) (second : List ℤ) → length (hitWords (hits ps R)) ≤ length out → length out ≤ 2 * length second
+      → (told (0, 0) (filterEntry (setWords ps ++ ws) R out second) ≡ (0, (length (hits ps R), candidates ps R)))
+      × (after (filterEntry (setWords ps ++ ws) R out second) out ≡ written seen ++ drop (length (written seen)) out)
+      × (after (filterRises (setWords ps ++ ws) R out second) second ≡ risen seen ++ drop (length (risen seen)) second)
 
 -- THE RUN THEOREM, of every set that may be searched: it holds after each call, the nth among
 -- them, and so at every front of the list
@@ -133,5 +151,5 @@ pub record Taking (k room : ℕ) (xs : List ℤ) (c : Counts) : Type 0 where
 pub record Demand3 : Type 0 where
   pub run : RunTheorem
   -- the rule of ended and full, of every accepted call, whatever state it is given
-  pub taking : (ws am out : List ℕ) (st : SearchState) (xs : List ℤ) → firstMet (streamConditions ws am st xs out) ≡ 0
-      → Taking (length (patternsOf ws)) (length out) xs (streamEntry ws am st xs out .counts)
+  pub taking : (ws am out : List ℕ) (st : SearchState) (xs rises : List ℤ) → firstMet (streamConditions ws am st xs out rises) ≡ 0
+      → Taking (length (patternsOf ws)) (length out) xs (streamEntry ws am st xs out rises .counts)

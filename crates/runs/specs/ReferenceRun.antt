@@ -1,12 +1,14 @@
 -- The reference run of a list of stream search calls: what document 01's run book says of them,
 -- from the text alone and by trees of windows. It shares no rule with the search. The automaton's
 -- words stand in refusal 7 and nowhere else. Document 01: A run of ladder searches; Run book;
--- Trials. Document 02, 2.2.
-use Rattle.lists.specs.Prelude.{Bool, cond, not, _&&_, _||_, Option, none, some, List, [], _∷_, _++_, ℕ, suc, pred, _+_, _-_, _*_, eqb, leb, ltb, ℤ, pos, leZ}
+-- Trials. Document 02, 2.2 and 2.7.
+use Rattle.lists.specs.Prelude.{Bool, cond, not, _&&_, _||_, Option, none, some, List, [], _∷_, _++_, map, ℕ, suc, pred, _+_, _-_, _*_, _%_, eqb, leb, ltb}
+use Rattle.lists.specs.Prelude.{ℤ, pos, leZ}
 use Rattle.lists.specs.Prelude.{length, getD, drop, tabulate, lastBelow, lastOf, all, select, begins}
 use Rattle.gaps.specs.Gaps.{isGap, holdsGap}
 use Rattle.pattern_set.specs.PatternSet.{PatternSet, setWords}
 use Rattle.matching.specs.Matching.{lastHits, hits, hitWords, headTree}
+use Rattle.matching.specs.Rise.{riseIn}
 use Rattle.automaton_model.specs.Automaton.{automatonWords}
 
 -- what a caller lends
@@ -15,14 +17,16 @@ pub record Call : Type 0 where
   pub automaton : List ℕ
   pub values : List ℤ
   pub hits : List ℕ
+  pub rises : List ℤ
 
 -- what is seen of a call
 pub record Seen : Type 0 where
   -- what it tells: its refusal, or 0; and 1 where it ended and 0 where it is full, values taken,
   -- hits and attempts. Where it is lent another set, only that it is refused
   pub tells : Option (ℕ × (ℕ × ℕ × ℕ × ℕ))
-  -- its hit array afterwards
+  -- its hit array and its second array afterwards
   pub leaves : List ℕ
+  pub rises : List ℤ
 
 -- ---- attempts
 
@@ -53,7 +57,8 @@ isLent ps c = begins (c .set) (setWords ps)
 unfoldable pub refusalOf : PatternSet → List ℤ → Call → ℕ
 refusalOf ps text c =
     cond (not (begins (c .automaton) (automatonWords ps))) 7
-    (cond (ltb 1048576 (length text + length (c .values))) 9 (cond (ltb (length (c .hits)) (2 * length ps)) 10 0))
+    (cond (ltb 1048576 (length text + length (c .values))) 9
+    (cond (ltb (length (c .hits)) (2 * length ps) || ltb (2 * length (c .rises)) (length (c .hits))) 10 0))
 
 -- the values that an accepted call takes: while it has values left and two words a pattern are
 -- free, the next value goes to the end of the text, and each hit that ends there uses two words
@@ -73,15 +78,16 @@ unfoldable pub hitsOn : PatternSet → List ℤ → List ℤ → List (ℕ × �
 hitsOn ps text xs = select (λ h. leb (length text) (h .0)) (hits ps (text ++ xs))
 
 -- what is seen of it: with no values left it is ended, else full; it tells how many values it added
--- and how many hits and attempts fall on them, and writes those hits
+-- and how many hits and attempts fall on them, and writes those hits and the rises over them
 unfoldable pub seenOf : PatternSet → List ℤ → Call → Seen
 seenOf ps text c =
     let n = refusalOf ps text c in
     let xs = added ps text c in
     let hs = hitsOn ps text xs in
     let ended : ℕ = cond (eqb n 0 && eqb (length xs) (length (c .values))) 1 0 in
+    let told : Option (ℕ × (ℕ × ℕ × ℕ × ℕ)) = cond (isLent ps c) (some (n, (ended, length xs, length hs, attemptsOn ps text xs))) none in
     let array = hitWords hs ++ drop (length (hitWords hs)) (c .hits) in
-    record { tells = cond (isLent ps c) (some (n, (ended, length xs, length hs, attemptsOn ps text xs))) none; leaves = array }
+    record { tells = told; leaves = array; rises = map (riseIn ps (text ++ xs)) hs ++ drop (length hs) (c .rises) }
 
 -- ---- all calls
 
@@ -108,3 +114,7 @@ isOpen text i = not (holdsGap (drop i text)) && all (λ j. leb j i || leZ (getD 
 -- the open minima among the last 256
 unfoldable pub openPlaces : List ℤ → List ℕ
 openPlaces text = select (λ i. leb (length text) (i + 256) && isOpen text i) (tabulate (length text) (λ i. i))
+
+-- the values kept: in slot s that of the last place that is s modulo 256; 0 where there is none
+unfoldable pub recentOf : List ℤ → List ℤ
+recentOf text = tabulate 256 (λ s. getD (pos 0 ∷ text) (lastBelow (λ p. eqb (p % 256) s) (length text)) (pos 0))

@@ -2,10 +2,9 @@
 -- free as the rule asks for. It holds of a state of any kind.
 use Rattle.lists.proofs.Prelude.{_≡_, _∙_, refl, sym, ap, subst, Bool, true, false, _⊎_, inl, inr, List, [], _∷_, ℕ, suc, _+_, _-_, _*_, _≤_, _<_, ℤ, ltb}
 use Rattle.lists.proofs.Prelude.{ltb-true, length, length-append, arith}
-use Rattle.answers.specs.declared.SearchState.{SearchState}
 use Rattle.pattern_set.specs.PatternSet.{PatternSet}
 use Rattle.gaps.specs.Gaps.{isGap}
-use Rattle.search_model.specs.Search.{Stepped, Called, stop, andThen, feed, skipped, sampled, step, call}
+use Rattle.search_model.specs.Search.{Position, Stepped, Called, stop, andThen, feed, skipped, sampled, step, call}
 
 module _ {S : Type 0} (next : S → ℤ → Stepped S) (room : ℕ) where
   -- ---- the two ways through a value
@@ -56,7 +55,7 @@ module _ {S : Type 0} (next : S → ℤ → Stepped S) (room : ℕ) where
 
 -- ---- the two kinds of values
 
-module _ (ps : PatternSet) (st : SearchState) (x : ℤ) where
+module _ (ps : PatternSet) (st : Position) (x : ℤ) where
   pub step-gap : isGap x ≡ true → step ps st x ≡ skipped st
   unfolding step
   step-gap e = rw e refl
@@ -66,7 +65,7 @@ module _ (ps : PatternSet) (st : SearchState) (x : ℤ) where
   step-sample e = rw e refl
 
   -- what holds of what a gap does and of what a sample does holds of a step
-  pub step-cases : (P : Stepped SearchState → Type 0) → (isGap x ≡ true → P (skipped st)) → (isGap x ≡ false → P (sampled ps st x)) → P (step ps st x)
+  pub step-cases : (P : Stepped Position → Type 0) → (isGap x ≡ true → P (skipped st)) → (isGap x ≡ false → P (sampled ps st x)) → P (step ps st x)
   step-cases P gap sample = go (isGap x) refl
     where
       go : (b : Bool) → isGap x ≡ b → P (step ps st x)
@@ -75,12 +74,12 @@ module _ (ps : PatternSet) (st : SearchState) (x : ℤ) where
 
 -- ---- a call of the stream search
 
-step-taken : (ps : PatternSet) (st : SearchState) (x : ℤ) → step ps st x .state .taken ≡ st .taken + 1
+pub step-taken : (ps : PatternSet) (st : Position) (x : ℤ) → step ps st x .state .taken ≡ st .taken + 1
 unfolding sampled
 step-taken ps st x = step-cases ps st x (λ s. s .state .taken ≡ st .taken + 1) (λ e. refl) (λ e. refl)
 
 -- the state has as many values more as the call took
-pub call-taken : (ps : PatternSet) (xs : List ℤ) (st : SearchState) (free : ℕ) → call ps st free xs .state .taken ≡ st .taken + call ps st free xs .taken
+pub call-taken : (ps : PatternSet) (xs : List ℤ) (st : Position) (free : ℕ) → call ps st free xs .state .taken ≡ st .taken + call ps st free xs .taken
 unfolding feed
 call-taken ps [] st free = omega arith
 call-taken ps (x ∷ xs) st free = go (ltb free (2 * length ps)) refl (call-taken ps xs (step ps st x .state) (free - 2 * length (step ps st x .hits)))
@@ -91,7 +90,7 @@ call-taken ps (x ∷ xs) st free = go (ltb free (2 * length ps)) refl (call-take
         → call ps st free (x ∷ xs) .state .taken ≡ st .taken + call ps st free (x ∷ xs) .taken
     go true e ih =
         let f = feed-full (step ps) (2 * length ps) st free x xs e in
-        ap (λ (c : Called SearchState). c .state .taken) f ∙ (omega (arith, ap (λ (c : Called SearchState). c .taken) f))
+        ap (λ (c : Called Position). c .state .taken) f ∙ (omega (arith, ap (λ (c : Called Position). c .taken) f))
     go false e ih =
         let m = feed-more (step ps) (2 * length ps) st free x xs e in
-        ap (λ (c : Called SearchState). c .state .taken) m ∙ (omega (arith, ih, step-taken ps st x, ap (λ (c : Called SearchState). c .taken) m))
+        ap (λ (c : Called Position). c .state .taken) m ∙ (omega (arith, ih, step-taken ps st x, ap (λ (c : Called Position). c .taken) m))

@@ -5,3 +5,4 @@ pub mod Good
 pub mod Push
 pub mod Accepted
 pub mod Feed
+pub mod Recent

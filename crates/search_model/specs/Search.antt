@@ -1,25 +1,42 @@
 -- The state of a stream search: when it is accepted, one step and one call from any accepted state.
--- Document 01: A search state; refusal 8; Step; A ladder search. Document 02, 2.2.
-use Rattle.lists.specs.Prelude.{Bool, cond, _&&_, _||_, List, [], _∷_, _++_, map, ℕ, suc, _+_, _-_, _*_, eqb, leb, ltb, ℤ, length}
+-- Document 01: A search state; refusal 8; Step; A ladder search. Document 02, 2.2 and 2.7.
+use Rattle.lists.specs.Prelude.{Bool, cond, _&&_, _||_, List, [], _∷_, _++_, map, ℕ, suc, _+_, _-_, _*_, _%_, eqb, leb, ltb, ℤ, length, take}
 use Rattle.gaps.specs.Gaps.{isGap}
 use Rattle.answers.specs.declared.SearchState.{SearchState}
 use Rattle.pattern_set.specs.PatternSet.{PatternSet}
+use Rattle.matching.specs.Rise.{rise}
 use Rattle.automaton_model.specs.Automaton.{nodes, headOf, nodeOf, advance, listed}
 use Rattle.search_model.specs.Ring.{Ring, goodRing, distanceOf, pushed, cleared}
+use Rattle.search_model.specs.Recent.{keeping, goodRecent, foundAt}
 
--- the ring of a state, and the state of a ring
-abbrev pub ringOf : SearchState → Ring
-ringOf st = record { minima = st .minima; first = st .first; places = st .places; values = st .values }
+-- where a search is: the values taken, the node, and the ring of its open minima
+pub record Position : Type 0 where
+  pub taken : ℕ
+  pub node : ℕ
+  pub ring : Ring
 
-abbrev pub stateOf : ℕ → ℕ → Ring → SearchState
-stateOf taken node r = record { taken = taken; node = node; minima = r .minima; first = r .first; places = r .places; values = r .values }
+-- that of a state, whose word `first` counts modulo 256; and the state there that keeps these
+-- values
+abbrev pub positionOf : SearchState → Position
+positionOf st =
+    let ring : Ring = record { minima = st .minima; first = st .first % 256; places = st .places; values = st .values } in
+    record { taken = st .taken; node = st .node; ring = ring }
+
+abbrev pub stateAt : Position → List ℤ → SearchState
+stateAt p recent =
+    let r = p .ring in
+    record { taken = p .taken; node = p .node; minima = r .minima; first = r .first; places = r .places; values = r .values; recent = recent }
 
 -- a node of the automaton, not deeper than the values taken, and a good ring; at a node other than
 -- 0 some minimum is open
+unfoldable pub goodPosition : PatternSet → Position → Bool
+goodPosition ps p =
+    ltb (p .node) (length (nodes ps)) && leb (length (headOf ps (p .node))) (p .taken) && leb (p .taken) 1048576
+    && goodRing (p .taken) (p .ring) && (ltb 0 (p .ring .minima) || eqb (p .node) 0)
+
+-- and good values kept
 unfoldable pub goodState : PatternSet → SearchState → Bool
-goodState ps st =
-    ltb (st .node) (length (nodes ps)) && leb (length (headOf ps (st .node))) (st .taken) && leb (st .taken) 1048576
-    && goodRing (st .taken) (ringOf st) && (ltb 0 (st .minima) || eqb (st .node) 0)
+goodState ps st = let p = positionOf st in goodPosition ps p && goodRecent (st .taken) (p .ring) (st .recent)
 
 -- ---- taking values, by a state of any kind
 
@@ -54,19 +71,29 @@ feed next room s free (x ∷ xs) =
 -- ---- the stream search
 
 -- what a sample does
-unfoldable pub sampled : PatternSet → SearchState → ℤ → Stepped SearchState
-sampled ps st x =
-    let r = advance ps (headOf ps (st .node)) (distanceOf (st .taken) (ringOf st) x) in
-    let next = stateOf (st .taken + 1) (nodeOf ps (r .0)) (pushed (st .taken) (ringOf st) x) in
-    record { state = next; hits = map (λ j. (st .taken, j)) (listed ps (r .0)); attempts = r .1 }
+unfoldable pub sampled : PatternSet → Position → ℤ → Stepped Position
+sampled ps p x =
+    let r = advance ps (headOf ps (p .node)) (distanceOf (p .taken) (p .ring) x) in
+    let next : Position = record { taken = p .taken + 1; node = nodeOf ps (r .0); ring = pushed (p .taken) (p .ring) x } in
+    record { state = next; hits = map (λ j. (p .taken, j)) (listed ps (r .0)); attempts = r .1 }
 
 -- what a gap does: it leads to node 0, clears the open minima and makes no attempt
-abbrev pub skipped : SearchState → Stepped SearchState
-skipped st = record { state = stateOf (st .taken + 1) 0 (cleared (ringOf st)); hits = []; attempts = 0 }
+abbrev pub skipped : Position → Stepped Position
+skipped p = record { state = record { taken = p .taken + 1; node = 0; ring = cleared (p .ring) }; hits = []; attempts = 0 }
 
-unfoldable pub step : PatternSet → SearchState → ℤ → Stepped SearchState
-step ps st x = cond (isGap x) (skipped st) (sampled ps st x)
+unfoldable pub step : PatternSet → Position → ℤ → Stepped Position
+step ps p x = cond (isGap x) (skipped p) (sampled ps p x)
 
 -- a call with so many words free
-abbrev pub call : PatternSet → SearchState → ℕ → List ℤ → Called SearchState
-call ps st free xs = feed (step ps) (2 * length ps) st free xs
+abbrev pub call : PatternSet → Position → ℕ → List ℤ → Called Position
+call ps p free xs = feed (step ps) (2 * length ps) p free xs
+
+-- ---- what a call c leaves, that was given the state and handed the values
+
+-- the state, which keeps the values taken
+abbrev pub stateAfter : SearchState → List ℤ → Called Position → SearchState
+stateAfter st xs c = stateAt (c .state) (keeping (st .taken) (st .recent) (take (c .taken) xs))
+
+-- the rises over its hits
+abbrev pub risesOf : PatternSet → SearchState → List ℤ → Called Position → List ℤ
+risesOf ps st xs c = map (rise ps (foundAt (st .taken) (st .recent) xs)) (c .hits)

@@ -1,11 +1,12 @@
 // The entry of the stream search, and the check of a state that a caller hands in. Document 01: A
-// ladder search; refusals 1 5 15 7 8 9 10. Document 02, 2.2 and 2.6.
-ghost use Rattle.lists.specs.Prelude.{_≡_, cond, _||_, _*_, eqb, leb, ltb};
+// ladder search; refusals 1 5 15 7 8 9 10. Document 02, 2.2, 2.6 and 2.7.
+ghost use Rattle.lists.specs.Prelude.{_≡_, cond, _||_, [], _*_, _≤_, eqb, leb, ltb};
 ghost use Rattle.answers.specs.Told.{number, toldStreamed};
 ghost use Rattle.pattern_set.specs.PatternSet.{patternsOf};
-ghost use Rattle.entries.specs.Entries.{firstMet, searchConditions, streamEntry, streamState, told, after};
-ghost use Rattle.search_model.specs.Search.{goodState};
+ghost use Rattle.entries.specs.Entries.{firstMet, searchConditions, streamEntry, streamRises, streamState, told, after};
+ghost use Rattle.search_model.specs.Search.{positionOf, goodPosition, goodState};
 ghost use Rattle.automaton_lookup.specs.Made.{Whole};
+ghost use Rattle.stream_call.specs.Taken.{stateOf};
 use answers::Counts;
 use answers::Refusal;
 use answers::SearchState;
@@ -23,30 +24,87 @@ fn has_minimum(minima: u32, node: u32) -> bool
     node == 0
 }
 
-// Is the state one that a search may go on from: its node is in the automaton and not deeper than
-// the values taken, these are not too many, at a node other than the root some minimum is open, and
-// its open minima are good.
-fn state_is_good(set: &[u32], automaton: &[u32], k: usize, count: usize, state: SearchState) -> bool
+// May a search be where these parts of a state say: its node is in the automaton and not deeper
+// than the values taken, these are not too many, at a node other than the root some minimum is
+// open, and its open minima are good. What is kept has no part in it.
+fn position_is_good(
+    set: &[u32],
+    automaton: &[u32],
+    k: usize,
+    count: usize,
+    taken: u32,
+    node: u32,
+    minima: u32,
+    first: u32,
+    places: &[u32; 256],
+    heights: &[i32; 256],
+) -> bool
     requires { ⌜ Whole (now set) (now automaton) k count ⌝ }
-    ensures { λ r. ⌜ r ≡ goodState (patternsOf (now (set .entry))) state ⌝ }
+    ensures { λ r. ⌜ r ≡ goodPosition (patternsOf (now (set .entry)))
+        (positionOf (stateOf taken node minima first (now (places .entry)) (now (heights .entry)) [])) ⌝ }
 {
-    let node = state.node as usize;
-    let taken = state.taken;
-    if node >= count {
+    let at = node as usize;
+    if at >= count {
         return false;
     }
-    if automaton_lookup::depth(set, automaton, k, count, node) > taken as usize {
+    if automaton_lookup::depth(set, automaton, k, count, at) > taken as usize {
         return false;
     }
     if taken > 1048576 {
         return false;
     }
-    if !has_minimum(state.minima, state.node) {
+    if !has_minimum(minima, node) {
         return false;
     }
-    let places = state.places;
-    let heights = state.values;
-    open_minima::minima_are_good(&places, &heights, state.first, state.minima, taken)
+    open_minima::minima_are_good(places, heights, first % 256, minima, taken)
+}
+
+// Is the state that the parts make one that a search may go on from: a position and values kept
+// that are good.
+fn state_is_good(
+    set: &[u32],
+    automaton: &[u32],
+    k: usize,
+    count: usize,
+    taken: u32,
+    node: u32,
+    minima: u32,
+    first: u32,
+    places: &[u32; 256],
+    heights: &[i32; 256],
+    recent: &[i32; 256],
+) -> bool
+    requires { ⌜ Whole (now set) (now automaton) k count ⌝ }
+    ensures { λ r. ⌜ r ≡ goodState (patternsOf (now (set .entry)))
+        (stateOf taken node minima first (now (places .entry)) (now (heights .entry)) (now (recent .entry))) ⌝ }
+{
+    if !position_is_good(
+        set,
+        automaton,
+        k,
+        count,
+        taken,
+        node,
+        minima,
+        first,
+        places,
+        heights,
+    ) {
+        return false;
+    }
+    recent_values::recent_are_good(places, heights, recent, first % 256, minima, taken)
+}
+
+// Is an array too short: the hit array for the hits of one value, or the second one for as many
+// hits as the hit array takes.
+fn are_short(k: usize, hits: usize, rises: usize) -> bool
+    requires { ⌜ k ≤ 64 ⌝ }
+    ensures { λ r. ⌜ r ≡ ltb hits (2 * k) || ltb (2 * rises) hits ⌝ }
+{
+    if hits < 2 * k {
+        return true;
+    }
+    compute_rises::is_short(hits, rises)
 }
 
 // The answer of the values of a call, of which there are n.
@@ -69,7 +127,9 @@ fn refused(given: SearchState, r: Refusal) -> Streamed
     }
 }
 
-// Searches on from a state, over the k patterns of a set and the count nodes of its automaton.
+// Searches on from a state, over the k patterns of a set and the count nodes of its automaton. The
+// arrays of the state are copied once before the values are taken and once into what is handed
+// back.
 fn search_on(
     set: &[u32],
     automaton: &[u32],
@@ -78,49 +138,97 @@ fn search_on(
     state: SearchState,
     values: &[i32],
     hits: &mut [u32],
+    rises: &mut [i32],
 ) -> Streamed
     requires { ⌜ Whole (now set) (now automaton) k count × (firstMet (searchConditions (now set) (now automaton)) ≡ 0) ⌝ }
     ensures { λ r. ⌜ toldStreamed (r .answer) ≡ told (0, 0, 0, 0)
-        (streamEntry (now (set .entry)) (now (automaton .entry)) state (now (values .entry)) (now (hits .entry))) ⌝ }
-    ensures { λ r. ⌜ r .state ≡ streamState (now (set .entry)) (now (automaton .entry)) state (now (values .entry)) (now (hits .entry)) ⌝ }
+        (streamEntry (now (set .entry)) (now (automaton .entry)) state (now (values .entry)) (now (hits .entry)) (now (rises .entry))) ⌝ }
+    ensures { λ r. ⌜ r .state
+        ≡ streamState (now (set .entry)) (now (automaton .entry)) state (now (values .entry)) (now (hits .entry)) (now (rises .entry)) ⌝ }
     ensures { λ _. ⌜ now (hits .exit) ≡ after (streamEntry (now (set .entry)) (now (automaton .entry)) state (now (values .entry))
-        (now (hits .entry))) (now (hits .entry)) ⌝ }
+        (now (hits .entry)) (now (rises .entry))) (now (hits .entry)) ⌝ }
+    ensures { λ _. ⌜ now (rises .exit) ≡ after (streamRises (now (set .entry)) (now (automaton .entry)) state (now (values .entry))
+        (now (hits .entry)) (now (rises .entry))) (now (rises .entry)) ⌝ }
 {
-    if !state_is_good(set, automaton, k, count, state) {
+    let mut places = state.places;
+    let mut heights = state.values;
+    let mut recent = state.recent;
+    let taken = state.taken;
+    if !state_is_good(
+        set,
+        automaton,
+        k,
+        count,
+        taken,
+        state.node,
+        state.minima,
+        state.first,
+        &places,
+        &heights,
+        &recent,
+    ) {
         return refused(state, Refusal::BrokenState);
     }
-    if values.len() > SearchState::LONGEST - state.taken as usize {
+    if values.len() > SearchState::LONGEST - taken as usize {
         return refused(state, Refusal::TextTooLong);
     }
-    if hits.len() < 2 * k {
+    if are_short(k, hits.len(), rises.len()) {
         return refused(state, Refusal::ArrayTooShort);
     }
-    let taken = stream_call::take_values(set, automaton, k, count, state, values, hits);
-    let next = taken.state;
-    let counts = taken.counts;
+    let left = stream_call::search_values(
+        set,
+        automaton,
+        k,
+        count,
+        taken,
+        state.node,
+        state.minima,
+        state.first,
+        &mut places,
+        &mut heights,
+        &mut recent,
+        values,
+        hits,
+        rises,
+    );
+    let counts = left.counts;
     Streamed {
-        state: next,
+        state: SearchState {
+            taken: left.taken,
+            node: left.node,
+            minima: left.minima,
+            first: left.first,
+            places,
+            values: heights,
+            recent,
+        },
         answer: answer_of(counts, values.len()),
     }
 }
 
-// Searches on from a state: takes the values, writes the hits that end at them, and hands the state
-// back.
+// Searches on from a state: takes the values, writes the hits that end at them and the rises over
+// these, and hands the state back.
 pub fn stream_search(
     set: &[u32],
     automaton: &[u32],
     state: SearchState,
     values: &[i32],
     hits: &mut [u32],
+    rises: &mut [i32],
 ) -> Streamed
     ensures { λ r. ⌜ toldStreamed (r .answer) ≡ told (0, 0, 0, 0)
-        (streamEntry (now (set .entry)) (now (automaton .entry)) state (now (values .entry)) (now (hits .entry))) ⌝ }
-    ensures { λ r. ⌜ r .state ≡ streamState (now (set .entry)) (now (automaton .entry)) state (now (values .entry)) (now (hits .entry)) ⌝ }
+        (streamEntry (now (set .entry)) (now (automaton .entry)) state (now (values .entry)) (now (hits .entry)) (now (rises .entry))) ⌝ }
+    ensures { λ r. ⌜ r .state
+        ≡ streamState (now (set .entry)) (now (automaton .entry)) state (now (values .entry)) (now (hits .entry)) (now (rises .entry)) ⌝ }
     ensures { λ _. ⌜ now (hits .exit) ≡ after (streamEntry (now (set .entry)) (now (automaton .entry)) state (now (values .entry))
-        (now (hits .entry))) (now (hits .entry)) ⌝ }
+        (now (hits .entry)) (now (rises .entry))) (now (hits .entry)) ⌝ }
+    ensures { λ _. ⌜ now (rises .exit) ≡ after (streamRises (now (set .entry)) (now (automaton .entry)) state (now (values .entry))
+        (now (hits .entry)) (now (rises .entry))) (now (rises .entry)) ⌝ }
 {
     match search_check::check_search(set, automaton) {
-        SearchSize::Holds(k, count) => { search_on(set, automaton, k, count, state, values, hits) }
+        SearchSize::Holds(k, count) => {
+            search_on(set, automaton, k, count, state, values, hits, rises)
+        }
         SearchSize::Refused(r) => refused(state, r),
     }
 }

@@ -1,6 +1,5 @@
 -- Where nothing is told to differ, all is as expected, and the other way round.
-use Rattle.lists.proofs.Prelude.{_≡_, refl, Bool, true, false, cond, _&&_, List, ℕ, eqb, ℤ, begins}
-use Rattle.test_inputs.specs.Arrays.{eqZ}
+use Rattle.lists.proofs.Prelude.{_≡_, refl, Bool, true, false, cond, _&&_, List, ℕ, eqb, ℤ, eqZ, begins}
 use Rattle.test_differences.specs.declared.difference.Part.{Part}
 use Rattle.test_differences.specs.declared.difference.Difference.{Difference}
 use Rattle.test_differences.specs.Difference.{isNothing, firstOf, compared, comparedValue, comparedWords}

@@ -1,7 +1,6 @@
 -- What is told of a case: the first thing that differs from what is expected.
-use lib.IntN.{negsuc}
-use Rattle.lists.specs.Prelude.{Bool, true, false, cond, List, ℕ, _+_, _-_, eqb, ℤ, pos, length, getD, drop, all, begins}
-use Rattle.test_inputs.specs.Arrays.{eqZ, alike, heldUntil, before}
+use Rattle.lists.specs.Prelude.{Bool, true, false, cond, List, ℕ, _+_, _-_, eqb, ℤ, pos, negsuc, eqZ, length, getD, drop, all, begins}
+use Rattle.test_inputs.specs.Arrays.{alike, heldUntil, before}
 use Rattle.test_differences.specs.declared.difference.Part.{Part}
 use Rattle.test_differences.specs.declared.difference.Difference.{Difference}
 

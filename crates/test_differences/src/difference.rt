@@ -73,7 +73,7 @@ fn lift_below_zero(x: i32) -> u64
 }
 
 // A value, lifted.
-fn lift(x: i32) -> u64
+pub fn lift(x: i32) -> u64
     ensures { λ r. ⌜ r ≡ lifted x ⌝ }
 {
     if x < 0 {

@@ -1,9 +1,10 @@
 -- Laws of arrays compared: the ways through the loops, and where two lists agree to the end.
-use Rattle.lists.proofs.Prelude.{_≡_, _∙_, ap, ap₂, sym, refl, Bool, true, false, cond, _&&_, List, [], _∷_, ℕ, suc, min, _+_, _≤_, _<_, eqb, ℤ, pos}
-use Rattle.lists.proofs.Prelude.{negsuc, length, getD, drop, take-nil, drop-cons, drop-of-length-le, length-drop, eq-eqb, ne-eqb, eqb-true, eqb·suc-suc}
-use Rattle.lists.proofs.Prelude.{eqb·zero-suc, add-one, add-zero, decLt, w32, SFits, ofZ, toZ, toZ-ofZ, arith, all, same, begins}
-use Rattle.lists.proofs.Tests.{eqb-comm, test-ext, T-true, true-T}
-use Rattle.test_inputs.specs.Arrays.{eqZ, alike, run, heldUntil}
+use Rattle.lists.proofs.Prelude.{_≡_, _∙_, ap, ap₂, sym, refl, Bool, true, false, cond, _&&_, List, [], _∷_, ℕ, suc, min, _+_, _≤_, _<_, eqb, ℤ, length, getD}
+use Rattle.lists.proofs.Prelude.{drop, take-nil, drop-cons, drop-of-length-le, length-drop, eq-eqb, ne-eqb, eqb·suc-suc, eqb·zero-suc, add-one, add-zero}
+use Rattle.lists.proofs.Prelude.{decLt, arith, all, same, begins, eqZ}
+use Rattle.lists.proofs.Tests.{eqb-comm}
+use Rattle.lists.proofs.Order.{eqZ-eq, eqZ-refl}
+use Rattle.test_inputs.specs.Arrays.{alike, run, heldUntil}
 
 -- ---- how far two lists agree
 
@@ -71,26 +72,6 @@ words-right (x ∷ xs) (y ∷ ys) = go (eqb x y) (words-right xs ys)
     go false ih = eqb·zero-suc (length ys)
 
 -- ---- values
-
-eqZ-eq : (a b : ℤ) → eqZ a b ≡ true → a ≡ b
-eqZ-eq (pos a) (pos b) e = ap pos (eqb-true a b e)
-eqZ-eq (pos a) (negsuc b) e = absurd (T-true false e)
-eqZ-eq (negsuc a) (pos b) e = absurd (T-true false e)
-eqZ-eq (negsuc a) (negsuc b) e = ap negsuc (eqb-true a b e)
-
-eqZ-refl : (a : ℤ) → eqZ a a ≡ true
-eqZ-refl (pos a) = eq-eqb a a refl
-eqZ-refl (negsuc a) = eq-eqb a a refl
-
--- the test of the machine, which compares bits
-pub bits-same : (a b : ℤ) → SFits w32 a → SFits w32 b → eqb (ofZ w32 a) (ofZ w32 b) ≡ eqZ a b
-bits-same a b f g =
-    test-ext (eqb (ofZ w32 a) (ofZ w32 b)) (eqZ a b)
-    (λ t.
-    let bits = eqb-true (ofZ w32 a) (ofZ w32 b) (true-T _ t) in
-    let e : a ≡ b = sym (toZ-ofZ w32 a f) ∙ ap (toZ w32) bits ∙ toZ-ofZ w32 b g in
-    rw e (T-true _ (eqZ-refl b)))
-    (λ t. T-true _ (eq-eqb (ofZ w32 a) (ofZ w32 b) (ap (ofZ w32) (eqZ-eq a b (true-T _ t)))))
 
 -- values that agree to the end are the same
 pub values-eq : (xs ys : List ℤ) → length xs ≡ length ys → length xs ≤ alike eqZ xs ys → xs ≡ ys

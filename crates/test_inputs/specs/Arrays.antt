@@ -1,13 +1,5 @@
 -- Arrays compared: how far they agree.
-use lib.IntN.{negsuc}
-use Rattle.lists.specs.Prelude.{Bool, false, cond, List, [], _∷_, ℕ, suc, min, _+_, eqb, ℤ, pos, length, drop}
-
--- are two values the same
-abbrev pub eqZ : ℤ → ℤ → Bool
-eqZ (pos a) (pos b) = eqb a b
-eqZ (pos a) (negsuc b) = false
-eqZ (negsuc a) (pos b) = false
-eqZ (negsuc a) (negsuc b) = eqb a b
+use Rattle.lists.specs.Prelude.{Bool, cond, List, [], _∷_, ℕ, suc, min, _+_, eqb, length, drop}
 
 -- how many elements two lists begin with alike, by a test of two elements
 unfoldable pub alike : {A : Type 0} → (A → A → Bool) → List A → List A → ℕ

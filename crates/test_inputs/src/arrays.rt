@@ -1,6 +1,6 @@
 // Reading and comparing arrays.
-ghost use Rattle.lists.specs.Prelude.{_≡_, min, _≤_, _<_, eqb, length, getD};
-ghost use Rattle.test_inputs.specs.Arrays.{eqZ, alike as alikeBy, heldUntil};
+ghost use Rattle.lists.specs.Prelude.{_≡_, min, _≤_, _<_, eqb, eqZ, length, getD};
+ghost use Rattle.test_inputs.specs.Arrays.{alike as alikeBy, heldUntil};
 
 // What arrays hold before an entry writes to them.
 pub const BEFORE: u32 = 4000000007;

@@ -1,8 +1,15 @@
 // Sets for test programs, made by the entries of the crate finder. No function asks anything of its
 // caller.
-ghost use Rattle.lists.specs.Prelude.{_≤_, _<_, length};
+ghost use Rattle.lists.specs.Prelude.{_≡_, _≤_, _<_, length};
 use test_inputs::arrays;
 use test_inputs::texts;
+
+// Writes the empty set.
+pub fn begin(set: &mut [u32])
+    ensures { λ _. ⌜ length (now (set .exit)) ≡ length (now (set .entry)) ⌝ }
+{
+    finder::empty_set(set);
+}
 
 // Adds the pattern of the first n values; returns how many they are.
 pub fn add(set: &mut [u32], values: &[i32], n: usize) -> usize
@@ -64,4 +71,23 @@ pub fn make(set: &mut [u32], text: &[i32], kind: usize, k: usize, most: usize, s
         j += 1;
     }
     s
+}
+
+// The last of k patterns; 0 where there is none.
+fn last(k: usize) -> usize
+    ensures { λ r. ⌜ r ≤ k ⌝ }
+{
+    if k == 0 { 0 } else { k - 1 }
+}
+
+// The number of the first, the middle, the last or any one of k patterns; 0 where there is none.
+pub fn pattern_number(way: usize, k: usize, seed: usize) -> usize
+    ensures { λ r. ⌜ r ≤ k ⌝ }
+{
+    match way % 4 {
+        0 => 0,
+        1 => k / 2,
+        2 => last(k),
+        _ => texts::pick(seed, last(k)),
+    }
 }

@@ -1,10 +1,10 @@
 -- Of two states nothing is told to differ exactly if they are the same.
-use Rattle.lists.proofs.Prelude.{_≡_, _∙_, sym, refl, Bool, true, false, cond, List, ℕ, _<_, leb, ℤ, pos, length, getD, take, take-all}
+use Rattle.lists.proofs.Prelude.{_≡_, _∙_, sym, refl, Bool, true, false, cond, List, ℕ, _<_, leb, ℤ, pos, eqZ, length, getD, take, take-all}
 use Rattle.lists.proofs.Prelude.{eqb-true, eq-eqb, leb-true, leb-false, le-leb, le-of-eq, arith}
 use Rattle.lists.proofs.Tests.{T-true, true-T, and-split, clash}
 use Rattle.lists.proofs.Same.{true-same, same-true}
 use Rattle.answers.specs.declared.SearchState.{SearchState}
-use Rattle.test_inputs.specs.Arrays.{eqZ, alike}
+use Rattle.test_inputs.specs.Arrays.{alike}
 use Rattle.test_inputs.proofs.Alike.{alike-differ, values-eq, values-refl}
 use Rattle.test_differences.specs.declared.difference.Part.{Part}
 use Rattle.test_differences.specs.declared.difference.Difference.{Difference}
@@ -77,17 +77,25 @@ numbers-refl a =
     (neither _ _ (number-refl Part.Taken (a .taken)) (number-refl Part.Node (a .node)))
     (neither _ _ (number-refl Part.Minima (a .minima)) (number-refl Part.FirstSlot (a .first)))
 
-pub states-same : (a b : SearchState) → length (a .places) ≡ 256 → length (b .places) ≡ 256 → length (a .values) ≡ 256 → length (b .values) ≡ 256
-    → isNothing (comparedStates a b) ≡ true → a ≡ b
-states-same a b p q v w h =
-    let halves = both (comparedNumbers a b) _ h in
-    let slots = both (comparedWords (a .places) (b .places)) _ (halves .1) in
-    let n = numbers-same a b (halves .0) in
-    let places = places-same (a .places) (b .places) (p ∙ sym q) (slots .0) in
-    let values = values-same (a .values) (b .values) v w (slots .1) in
-    λ i. record { taken = n .0 i; node = n .1 i; minima = n .2 i; first = n .3 i; places = places i; values = values i }
+-- the arrays of a state have 256 places
+pub record Sized (s : SearchState) : Type 0 where
+  pub places : length (s .places) ≡ 256
+  pub values : length (s .values) ≡ 256
+  pub recent : length (s .recent) ≡ 256
 
-pub states-refl : (a : SearchState) → length (a .values) ≡ 256 → isNothing (comparedStates a a) ≡ true
-states-refl a v =
-    neither (comparedNumbers a a) _ (numbers-refl a)
-    (neither (comparedWords (a .places) (a .places)) _ (places-refl (a .places)) (values-same-refl (a .values) v))
+pub states-same : (a b : SearchState) → Sized a → Sized b → isNothing (comparedStates a b) ≡ true → a ≡ b
+states-same a b p q h =
+    let halves = both (comparedNumbers a b) _ h in
+    let arrays = both (firstOf (comparedWords (a .places) (b .places)) (comparedSlotValues (a .values) (b .values))) _ (halves .1) in
+    let slots = both (comparedWords (a .places) (b .places)) _ (arrays .0) in
+    let n = numbers-same a b (halves .0) in
+    let places = places-same (a .places) (b .places) (p .places ∙ sym (q .places)) (slots .0) in
+    let values = values-same (a .values) (b .values) (p .values) (q .values) (slots .1) in
+    let recent = values-same (a .recent) (b .recent) (p .recent) (q .recent) (arrays .1) in
+    λ i. record { taken = n .0 i; node = n .1 i; minima = n .2 i; first = n .3 i; places = places i; values = values i; recent = recent i }
+
+pub states-refl : (a : SearchState) → Sized a → isNothing (comparedStates a a) ≡ true
+states-refl a p =
+    let slots =
+    neither (comparedWords (a .places) (a .places)) _ (places-refl (a .places)) (values-same-refl (a .values) (p .values)) in
+    neither (comparedNumbers a a) _ (numbers-refl a) (neither _ _ slots (values-same-refl (a .recent) (p .recent)))

@@ -1,7 +1,7 @@
 -- A state of a search, against the one expected: the first thing that differs.
-use Rattle.lists.specs.Prelude.{cond, List, leb, ℤ, pos, getD}
+use Rattle.lists.specs.Prelude.{cond, List, leb, ℤ, pos, eqZ, getD}
 use Rattle.answers.specs.declared.SearchState.{SearchState}
-use Rattle.test_inputs.specs.Arrays.{eqZ, alike}
+use Rattle.test_inputs.specs.Arrays.{alike}
 use Rattle.test_differences.specs.declared.difference.Part.{Part}
 use Rattle.test_differences.specs.declared.difference.Difference.{Difference}
 use Rattle.test_differences.specs.Difference.{firstOf, compared, comparedValue, comparedWords}
@@ -19,8 +19,8 @@ comparedSlotValues expected got =
     let i = alike eqZ expected got in
     cond (leb 256 i) Difference.Nothing (comparedValue i (getD expected i (pos 0)) (getD got i (pos 0)))
 
--- numbers, places and values
+-- numbers, places and values, and the values kept
 abbrev pub comparedStates : SearchState → SearchState → Difference
 comparedStates expected got =
-    firstOf (comparedNumbers expected got)
-    (firstOf (comparedWords (expected .places) (got .places)) (comparedSlotValues (expected .values) (got .values)))
+    let slots = firstOf (comparedWords (expected .places) (got .places)) (comparedSlotValues (expected .values) (got .values)) in
+    firstOf (comparedNumbers expected got) (firstOf slots (comparedSlotValues (expected .recent) (got .recent)))

@@ -47,7 +47,7 @@ fn is_open(text: &[i32], q: usize, taken: usize) -> bool {
 fn look_for(
     places: &[u32; 256],
     values: &[i32; 256],
-    first: u8,
+    first: u32,
     o: Open,
     text: &[i32],
     q: usize,
@@ -58,7 +58,7 @@ fn look_for(
     }
     let i = arrays::smaller(o.count, 256);
     let d = o.difference;
-    let slot = expect_slot(places, values, (first as usize + i) % 256, i, text, q);
+    let slot = expect_slot(places, values, (arrays::wide(first) + i) % 256, i, text, q);
     Open {
         count: i + 1,
         difference: difference::first(d, slot),
@@ -69,7 +69,7 @@ fn look_for(
 fn look_for_all(
     places: &[u32; 256],
     values: &[i32; 256],
-    first: u8,
+    first: u32,
     text: &[i32],
     taken: usize,
 ) -> Open {
@@ -136,6 +136,43 @@ fn expect_node(
     )
 }
 
+// The value that slot i of those kept must hold once so many values of the text are taken: that of
+// the last place taken whose number is i modulo 256, and 0 where there is none.
+fn kept_at(text: &[i32], taken: usize, i: usize) -> i32 {
+    if i >= taken {
+        return 0;
+    }
+    let p = taken - 1 - (taken - 1 - i) % 256;
+    if p >= text.len() {
+        return 0;
+    }
+    text[p]
+}
+
+// The values kept are expected to be the last ones taken of the text.
+fn expect_recent(recent: &[i32; 256], text: &[i32], taken: usize) -> Difference {
+    let mut i: usize = 0;
+    while i < 256 {
+        let d = difference::expect_value(i, kept_at(text, taken, i), recent[i]);
+        if !difference::is_none(d) {
+            return d;
+        }
+        i += 1;
+    }
+    difference::none()
+}
+
+// The open minima and the values kept are expected to be those of the text as far as it is taken,
+// and the first slot to be below 256.
+fn expect_arrays(state: SearchState, text: &[i32], taken: usize) -> Difference {
+    let recent = state.recent;
+    let slot = difference::expect_truth(Part::FirstSlot, true, state.first < 256);
+    difference::first(
+        expect_minima(state, text),
+        difference::first(slot, expect_recent(&recent, text, taken)),
+    )
+}
+
 // The state is expected to be that after the first values of the text.
 pub fn expect_after(
     state: SearchState,
@@ -150,9 +187,9 @@ pub fn expect_after(
     if !difference::is_none(count) {
         return count;
     }
-    let minima = expect_minima(state, text);
+    let kept = expect_arrays(state, text, taken);
     difference::first(
-        minima,
+        kept,
         expect_node(set, automaton, arrays::wide(state.node), text, taken),
     )
 }
@@ -199,8 +236,14 @@ pub fn expect_same(expected: SearchState, got: SearchState) -> Difference
     let q = got.places;
     let v = expected.values;
     let w = got.values;
+    let x = expected.recent;
+    let y = got.recent;
     let slots = expect_slots(&p, &q, &v, &w);
-    difference::first(expect_numbers(expected, got), slots)
+    let kept = expect_slot_values(&x, &y);
+    difference::first(
+        expect_numbers(expected, got),
+        difference::first(slots, kept),
+    )
 }
 
 // The state at another node, or with another number of values taken.
@@ -209,6 +252,7 @@ pub fn changed(s: SearchState, node: u32, taken: u32) -> SearchState
 {
     let places = s.places;
     let values = s.values;
+    let recent = s.recent;
     SearchState {
         taken,
         node,
@@ -216,16 +260,66 @@ pub fn changed(s: SearchState, node: u32, taken: u32) -> SearchState
         first: s.first,
         places,
         values,
+        recent,
+    }
+}
+
+// The state whose ring starts at another slot.
+pub fn started_at(s: SearchState, first: u32) -> SearchState
+    ensures { λ r. ⌜ (r .first ≡ first) × (r .taken ≡ s .taken) × (r .node ≡ s .node) × (r .minima ≡ s .minima) ⌝ }
+{
+    let places = s.places;
+    let values = s.values;
+    let recent = s.recent;
+    SearchState {
+        taken: s.taken,
+        node: s.node,
+        minima: s.minima,
+        first,
+        places,
+        values,
+        recent,
+    }
+}
+
+// The state that keeps another value for a place.
+pub fn keeping(s: SearchState, place: u32, value: i32) -> SearchState
+    ensures { λ r. ⌜ (r .taken ≡ s .taken) × (r .node ≡ s .node) × (r .minima ≡ s .minima) × (r .first ≡ s .first)
+        × (r .places ≡ s .places) × (r .values ≡ s .values) ⌝ }
+{
+    let places = s.places;
+    let values = s.values;
+    let mut recent = s.recent;
+    recent[(place % 256) as usize] = value;
+    SearchState {
+        taken: s.taken,
+        node: s.node,
+        minima: s.minima,
+        first: s.first,
+        places,
+        values,
+        recent,
+    }
+}
+
+// Keeps gaps for the places from one up to another one, without that.
+fn keep_gaps(recent: &mut [i32; 256], from: u32, to: u32) {
+    let mut p = from;
+    while p < to {
+        recent[(p % 256) as usize] = -2147483648;
+        p += 1;
     }
 }
 
 // The state behind one more value or several, all of them gaps: at the root, with no open minimum,
-// and every slot as it was.
+// every slot of the ring as it was, and the gaps kept.
 pub fn cleared(s: SearchState, taken: u32) -> SearchState
     ensures { λ r. ⌜ (r .node ≡ 0) × (r .taken ≡ taken) × (r .minima ≡ 0) × (r .first ≡ s .first) × (r .places ≡ s .places) × (r .values ≡ s .values) ⌝ }
 {
     let places = s.places;
     let values = s.values;
+    let mut recent = s.recent;
+    keep_gaps(&mut recent, s.taken, taken);
     SearchState {
         taken,
         node: 0,
@@ -233,5 +327,6 @@ pub fn cleared(s: SearchState, taken: u32) -> SearchState
         first: s.first,
         places,
         values,
+        recent,
     }
 }

@@ -19,7 +19,7 @@ enum-told c = search needs
 
 search-text-requires : tie.Need-search-text-requires
 search-text-requires c κs =
-    let told = c .before in
+    let told = c .before .before in
     let checked = told .before .before in
     let h = subst (λ (r : SetSize). IsSearchable (atStart checked .args .set .now) r) (told .enum-told .given .1) (checked .check-searchable .ensures) in
     (h .0, h .1)
@@ -30,8 +30,11 @@ enum-known-r c = search needs
 same-length : tie.Need-same-length
 same-length c = search needs
 
+same-length-2 : tie.Need-same-length-2
+same-length-2 c = search needs
+
 returns : tie.Need-returns
-returns c = c .before .before .search-text .ensures
+returns c = c .before .before .before .search-text .ensures
 
 returns-2 : tie.Need-returns-2
 returns-2 c =
@@ -39,7 +42,8 @@ returns-2 c =
     let checked = r .before .before in
     let a = atStart checked .args in
     let met = subst (λ (r : SetSize). IsSearchable (a .set .now) r) (r .r .given .1) (checked .check-searchable .ensures) in
-    entry-refused (a .set .now) (a .text .now) (a .hits .now) (r .r .given .0 .0) met
+    let e = entry-refused (a .set .now) (a .text .now) (a .hits .now) (a .rises .now) (r .r .given .0 .0) met in
+    (e .0, (e .1, e .2))
 
 pub filter-search-spec : {M : Type 1} → statement M
 filter-search-spec =
@@ -50,5 +54,6 @@ filter-search-spec =
     search-text-requires
     enum-known-r
     same-length
+    same-length-2
     returns
     returns-2)

@@ -1,14 +1,23 @@
--- `search_text` meets its contract: a text that is too long is refused, and another searched.
-use Rattle.lists.proofs.Prelude.{_≡_, _∙_, arith, needs}
-use Rattle.entries.specs.Entries.{firstMet, setConditions}
+-- `search_text` meets its contract: a text that is too long or a second array that is too short is
+-- refused, and another text is searched; where its list fits, the rises are written.
+use Rattle.lists.proofs.Prelude.{_≡_, _∙_, ap, sym, false, _*_, length, ltb-false, arith, needs}
+use Rattle.answers.specs.Told.{toldFiltered}
+use Rattle.entries.specs.Entries.{firstMet, setConditions, isShort}
 use Rattle.entries.proofs.Searchable.{set-unmet}
-use Rattle.filter_search.proofs.Answers.{entry-long, entry-told, entry-after}
+use Rattle.filter_search.proofs.Answers.{entry-long, entry-short, entry-full, found-fits, found-array, found-hits, entry-found}
 use Rattle.filter_search.proofs.search_text.Statement.{statement}
 use Rattle.filter_search.proofs.search_text.Tie as tie
 
 -- where the call begins, from the test of the length
 abbrev atStart : tie.After-slice-known → tie.Start
 atStart c = c .before .before
+
+-- where both tests are passed, from the search
+abbrev passed : tie.After-search → tie.Else2
+passed c = c .before .before
+
+abbrev begun : tie.Else2 → tie.Start
+begun c = atStart (c .before .before .before)
 
 -- the set may be searched
 unmet : (s : tie.Start) → firstMet (setConditions (s .args .set .now)) ≡ 0
@@ -17,29 +26,99 @@ unmet s = set-unmet (s .args .set .now) (s .pre .0) (s .pre .1)
 returns : tie.Need-returns
 returns c =
     let s = atStart (c .before) in
-    entry-long (s .args .set .now) (s .args .text .now) (s .args .hits .now) (unmet s) (omega (arith, c .if1 .taken))
+    let e =
+    entry-long (s .args .set .now) (s .args .text .now) (s .args .hits .now) (s .args .rises .now) (unmet s) (omega (arith, c .if1 .taken)) in
+    (e .0, (e .1, e .2))
+
+is-short-requires : tie.Need-is-short-requires
+is-short-requires c κs = search needs
+
+returns-2 : tie.Need-returns-2
+returns-2 c =
+    let e1 = c .before .before in
+    let s = atStart (e1 .before) in
+    let e =
+    entry-short (s .args .set .now) (s .args .text .now) (s .args .hits .now) (s .args .rises .now) (unmet s) (e1 .if1 .left)
+    (sym (c .before .is-short .ensures) ∙ c .if2 .taken) in
+    (e .0, (e .1, e .2))
+
+-- the second array is long enough
+long : (c : tie.Else2) → isShort (begun c .args .hits .now) (begun c .args .rises .now) ≡ false
+long c = sym (c .before .is-short .ensures) ∙ c .if2 .left
 
 search-requires : tie.Need-search-requires
-search-requires c κs = (atStart (c .before .before) .pre .0, c .before .if1 .left)
+search-requires c κs = let e = c .before in (begun e .pre .0, e .before .before .if1 .left)
+
+enum-known-n : tie.Need-enum-known-n
+enum-known-n c = search needs
+
+write-rises-requires : tie.Need-write-rises-requires
+write-rises-requires c κs =
+    let k = c .before .before .before in
+    let S = k .before .before .before .before in
+    let e = passed S in
+    let a = begun e .args in
+    let t = ap toldFiltered (sym (k .n .given .1)) ∙ S .search .ensures .0 in
+    let w = S .search .ensures .1 in
+    let fits = found-fits (a .set .now) (a .text .now) (a .hits .now) (a .rises .now) (unmet (begun e)) (e .before .before .if1 .left) (long e) _ _ _ t w in (
+      (
+        begun e .pre .0,
+        found-array (a .set .now) (a .text .now) (a .hits .now) (a .rises .now) (unmet (begun e)) (e .before .before .if1 .left) (long e) _ _ _ t w,
+        omega (arith, fits, ltb-false (2 * length (a .rises .now)) (length (a .hits .now)) (long e)),
+      ),
+      found-hits (a .set .now) (a .text .now) (a .hits .now) (a .rises .now) (unmet (begun e)) (e .before .before .if1 .left) (long e) _ _ _ t w,
+    )
+
+enum-known-r : tie.Need-enum-known-r
+enum-known-r c = search needs
 
 same-length : tie.Need-same-length
 same-length c = search needs
 
-returns-2 : tie.Need-returns-2
-returns-2 c =
-    let e = c .before .before .before .before in
-    let s = atStart (e .before) in
-    let ws = s .args .set .now in
-    let xs = s .args .text .now in
-    let out = s .args .hits .now in
-    let r = c .before .before .search in
-    (r .ensures .0 ∙ entry-told ws xs out (unmet s) (e .if1 .left), r .ensures .1 ∙ entry-after ws xs out (unmet s) (e .if1 .left))
+same-length-2 : tie.Need-same-length-2
+same-length-2 c = search needs
+
+returns-3 : tie.Need-returns-3
+returns-3 c =
+    let W = c .before in
+    let k = W .before .before .before .before in
+    let S = k .before .before .before .before in
+    let e = passed S in
+    let a = begun e .args in
+    let t = ap toldFiltered (sym (k .n .given .1)) ∙ S .search .ensures .0 in
+    let r =
+    entry-found (a .set .now) (a .text .now) (a .hits .now) (a .rises .now) (unmet (begun e)) (e .before .before .if1 .left) (long e) _ _ _ t
+    (S .search .ensures .1) _ (W .write-rises .ensures) in
+    (r .0, (r .1, r .2))
+
+same-length-3 : tie.Need-same-length-3
+same-length-3 c = search needs
+
+returns-4 : tie.Need-returns-4
+returns-4 c =
+    let k = c .before in
+    let S = k .before .before .before .before in
+    let e = passed S in
+    let a = begun e .args in
+    let t = ap toldFiltered (sym (k .r .given .1)) ∙ S .search .ensures .0 in
+    let r =
+    entry-full (a .set .now) (a .text .now) (a .hits .now) (a .rises .now) (unmet (begun e)) (e .before .before .if1 .left) (long e) (k .r .given .0 .0) _ t
+    (S .search .ensures .1) in
+    (r .0, (r .1, r .2))
 
 pub search-text-spec : {M : Type 1} → statement M
 search-text-spec =
     tie.close
     (tie.spec
     returns
+    is-short-requires
+    returns-2
     search-requires
+    enum-known-n
+    write-rises-requires
+    enum-known-r
     same-length
-    returns-2)
+    same-length-2
+    returns-3
+    same-length-3
+    returns-4)

@@ -12,11 +12,14 @@ filtered-requires c κs = search needs
 same-length : tie.Need-same-length
 same-length c = search needs
 
+same-length-2 : tie.Need-same-length-2
+same-length-2 c = search needs
+
 returns : tie.Need-returns
 returns c =
-    let d = c .before .before .before .filter-search .ensures in
+    let d = c .before .before .before .before .filter-search .ensures in
     (c .filtered .ensures ∙ d .0, d .1)
 
 pub finder-filter-search-spec : {M : Type 1} → statement M
 finder-filter-search-spec =
-    tie.close (tie.spec filter-search-requires filtered-requires same-length returns)
+    tie.close (tie.spec filter-search-requires filtered-requires same-length same-length-2 returns)

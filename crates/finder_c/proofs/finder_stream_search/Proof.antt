@@ -12,12 +12,15 @@ streamed-requires c κs = search needs
 same-length : tie.Need-same-length
 same-length c = search needs
 
+same-length-2 : tie.Need-same-length-2
+same-length-2 c = search needs
+
 returns : tie.Need-returns
 returns c =
-    let d = c .before .before .before .before .stream-search .ensures in
+    let d = c .before .before .before .before .before .stream-search .ensures in
     let w = c .streamed .ensures in
     (w .0 ∙ d .0, (w .1 ∙ d .1 .0, d .1 .1))
 
 pub finder-stream-search-spec : {M : Type 1} → statement M
 finder-stream-search-spec =
-    tie.close (tie.spec stream-search-requires streamed-requires same-length returns)
+    tie.close (tie.spec stream-search-requires streamed-requires same-length same-length-2 returns)

@@ -6,7 +6,7 @@ use Rattle.automaton_model.specs.Automaton.{headOf, listed}
 use Rattle.automaton_lookup.proofs.Words.{made-good}
 use Rattle.search_model.proofs.Accepted.{Accepted}
 use Rattle.open_minima.specs.Parts.{AreCounters}
-use Rattle.read_value.specs.Read.{stateFrom}
+use Rattle.read_value.specs.Read.{positionAt}
 use Rattle.first_hit.proofs.Reading.{SoFar, so-far-start, so-far-good, so-far-more, so-far-stopped}
 use Rattle.first_hit.proofs.read_to_hit.Statement.{statement}
 use Rattle.first_hit.proofs.read_to_hit.Tie as tie
@@ -14,7 +14,7 @@ use Rattle.first_hit.proofs.read_to_hit.Tie as tie
 -- before each turn: what is read so far, and the counters of the ring
 abbrev Inv-loop : tie.InvT-loop
 Inv-loop set automaton k count text places₀ heights₀ first₀ next₀ node₀ i₀ places heights first next node i =
-    SoFar (patternsOf set) text (stateFrom i node first next places heights) i × AreCounters i first next
+    SoFar (patternsOf set) text (positionAt i node first next places heights) i × AreCounters i first next
 
 abbrev μ-loop : tie.MeasureT-loop
 μ-loop set automaton k count text places₀ heights₀ first₀ next₀ node₀ i₀ places heights first next node i = length text - i
@@ -32,13 +32,13 @@ loopOf c = c .before .before .before
 -- what is known of the state
 known : (c : tie.At-loop Inv-loop μ-loop) →
     let L = c .loop in
-    Accepted (patternsOf (begun c .args .set .now)) (stateFrom (L .i) (L .node) (L .first) (L .next) (L .places) (L .heights))
+    Accepted (patternsOf (begun c .args .set .now)) (positionAt (L .i) (L .node) (L .first) (L .next) (L .places) (L .heights))
 known c =
     let s = begun c in
     let made = s .pre .0 .made in
     let L = c .loop in
     so-far-good (patternsOf (s .args .set .now)) (made-good made) (made .filled) (s .args .text .now)
-    (stateFrom (L .i) (L .node) (L .first) (L .next) (L .places) (L .heights)) (L .i) (L .inv .0) (s .pre .1)
+    (positionAt (L .i) (L .node) (L .first) (L .next) (L .places) (L .heights)) (L .i) (L .inv .0) (s .pre .1)
 
 loop-holds : tie.Need-loop-holds Inv-loop μ-loop
 loop-holds c =
@@ -71,7 +71,7 @@ more : (c : tie.After-read-value Inv-loop μ-loop) →
     let r = c .read-value in
     let left = r .last .1 .1 .1 .1 in
     SoFar (patternsOf (a .set .now)) (a .text .now)
-    (stateFrom (L .i + 1) (r .result .node) (r .result .first) (r .result .next) (left .0) (left .1 .0)) (L .i + 1)
+    (positionAt (L .i + 1) (r .result .node) (r .result .first) (r .result .next) (left .0) (left .1 .0)) (L .i + 1)
 more c =
     let at = loopOf (turn c) in
     let s = begun at in
@@ -80,7 +80,7 @@ more c =
     let r = c .read-value in
     let left = r .last .1 .1 .1 .1 in
     so-far-more (patternsOf (s .args .set .now)) (made-good made) (made .filled) (s .args .text .now)
-    (stateFrom (L .i) (L .node) (L .first) (L .next) (L .places) (L .heights)) (L .i) (L .inv .0) (turn c .before .before .loop-test .taken)
+    (positionAt (L .i) (L .node) (L .first) (L .next) (L .places) (L .heights)) (L .i) (L .inv .0) (turn c .before .before .loop-test .taken)
     (sym (turn c .before .lists-none .ensures) ∙ turn c .if1 .taken) (left .0) (left .1 .0) (r .result) (r .ensures)
 
 add-i : tie.Need-add-i Inv-loop μ-loop
@@ -102,7 +102,7 @@ returns c =
     let ps = patternsOf (s .args .set .now) in
     let some = eqb-false (length (listed ps (headOf ps (L .node)))) 0 (sym (c .before .lists-none .ensures) ∙ c .if1 .left) in
     so-far-stopped ps (made-good made) (made .filled) (s .args .text .now)
-    (stateFrom (L .i) (L .node) (L .first) (L .next) (L .places) (L .heights)) (L .i) (L .inv .0) (s .pre .1) (λ e. absurd (some e))
+    (positionAt (L .i) (L .node) (L .first) (L .next) (L .places) (L .heights)) (L .i) (L .inv .0) (s .pre .1) (λ e. absurd (some e))
 
 -- no value is left
 returns-2 : tie.Need-returns-2 Inv-loop μ-loop
@@ -111,7 +111,7 @@ returns-2 c =
     let made = s .pre .0 .made in
     let L = c .before .loop in
     so-far-stopped (patternsOf (s .args .set .now)) (made-good made) (made .filled) (s .args .text .now)
-    (stateFrom (L .i) (L .node) (L .first) (L .next) (L .places) (L .heights)) (L .i) (L .inv .0) (s .pre .1)
+    (positionAt (L .i) (L .node) (L .first) (L .next) (L .places) (L .heights)) (L .i) (L .inv .0) (s .pre .1)
     (λ e. omega (arith, c .loop-test .left, L .inv .0 .within))
 
 pub read-to-hit-spec : {M : Type 1} → statement M

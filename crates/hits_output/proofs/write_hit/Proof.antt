@@ -2,7 +2,7 @@
 -- that of the hit (`hitLine-is`).
 use Rattle.lists.proofs.Prelude.{_∙_, ap, List, _++_, ℕ, _+_, _*_, length, drop, arith, needs}
 use Rattle.pattern_set.specs.PatternSet.{patternsOf}
-use Rattle.hits_output.specs.Output.{hitIn}
+use Rattle.matching.specs.HitsIn.{hitIn}
 use Rattle.hits_output.proofs.Lines.{hitLine-is}
 use Rattle.hits_output.proofs.write_hit.Statement.{statement}
 use Rattle.hits_output.proofs.write_hit.Tie as tie

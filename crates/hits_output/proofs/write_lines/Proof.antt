@@ -3,7 +3,8 @@
 use borrow.Rule.Slice.PartMut.{same-len-mid}
 use Rattle.lists.proofs.Prelude.{_≡_, _∙_, ap, refl, List, _++_, ℕ, _-_, _*_, _≤_, length, drop, length-take, length-drop, arith, needs}
 use Rattle.pattern_set.specs.PatternSet.{patternsOf}
-use Rattle.hits_output.specs.Output.{hitLines, hitsIn}
+use Rattle.matching.specs.HitsIn.{hitsIn}
+use Rattle.hits_output.specs.Output.{hitLines}
 use Rattle.hits_output.proofs.Lines.{lines-start, lines-written}
 use Rattle.hits_output.proofs.write_lines.Statement.{statement}
 use Rattle.hits_output.proofs.write_lines.Tie as tie

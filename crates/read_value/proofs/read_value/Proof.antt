@@ -3,7 +3,7 @@
 use Rattle.lists.proofs.Prelude.{_∙_, sym, refl, pos, getD, needs}
 use Rattle.pattern_set.specs.PatternSet.{patternsOf}
 use Rattle.automaton_lookup.proofs.Words.{made-good}
-use Rattle.read_value.specs.Read.{stateFrom}
+use Rattle.read_value.specs.Read.{positionAt}
 use Rattle.read_value.proofs.Reading.{read-gap, read-sample}
 use Rattle.read_value.proofs.read_value.Statement.{statement}
 use Rattle.read_value.proofs.read_value.Tie as tie
@@ -17,7 +17,7 @@ returns c =
     let a = s .args in
     let made = s .pre .0 .0 .made in
     read-gap (patternsOf (a .set .now)) (made-good made) (made .filled)
-    (stateFrom (a .taken) (a .node) (a .first) (a .next) (a .places .now) (a .heights .now)) (getD (a .values .now) (a .i) (pos 0))
+    (positionAt (a .taken) (a .node) (a .first) (a .next) (a .places .now) (a .heights .now)) (getD (a .values .now) (a .i) (pos 0))
     (a .first) (a .next) (a .places .now) (a .heights .now) (sym (c .before .is-gap .ensures) ∙ c .if1 .taken) refl (s .pre .1 .0 .0)
 
 push-minimum-requires : tie.Need-push-minimum-requires
@@ -34,7 +34,7 @@ returns-2 c =
     let a = s .args in
     let made = s .pre .0 .0 .made in
     read-sample (patternsOf (a .set .now)) (made-good made) (made .filled)
-    (stateFrom (a .taken) (a .node) (a .first) (a .next) (a .places .now) (a .heights .now)) (getD (a .values .now) (a .i) (pos 0)) _ _
+    (positionAt (a .taken) (a .node) (a .first) (a .next) (a .places .now) (a .heights .now)) (getD (a .values .now) (a .i) (pos 0)) _ _
     (P .push-minimum .result) (c .advance .result .node) (c .advance .result .attempts)
     (sym (E .before .is-gap .ensures) ∙ E .if1 .left) (P .push-minimum .ensures) (c .advance .ensures)
 

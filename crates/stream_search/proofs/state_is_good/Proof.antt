@@ -1,64 +1,51 @@
--- `state_is_good` meets its contract: each test refuses what makes the state bad, and where none
--- does the open minima decide.
-use Rattle.lists.proofs.Prelude.{_∙_, sym, arith, not-false, not-true, needs}
+-- `state_is_good` meets its contract: a state is good where its position and the values kept are.
+use Rattle.lists.proofs.Prelude.{_≡_, _∙_, ap, sym, Bool, true, _&&_, not-false, not-true, needs}
+use Rattle.answers.specs.declared.SearchState.{SearchState}
 use Rattle.pattern_set.specs.PatternSet.{patternsOf}
-use Rattle.search_model.proofs.Accepted.{state-outside, state-deep, state-long, state-empty, state-minima}
+use Rattle.search_model.specs.Search.{positionOf, goodPosition}
+use Rattle.search_model.specs.Recent.{goodRecent}
+use Rattle.search_model.proofs.Accepted.{accepted, good-both}
+use Rattle.search_model.proofs.Good.{good, good-few}
+use Rattle.stream_call.specs.Taken.{stateOf}
 use Rattle.stream_search.proofs.state_is_good.Statement.{statement}
 use Rattle.stream_search.proofs.state_is_good.Tie as tie
 
-cast-node : tie.Need-cast-node
-cast-node c = search needs
+-- where the check begins, and the state that the parts make
+abbrev begun : tie.After-position-is-good → tie.Start
+begun c = c .before .before .before
+
+abbrev given : tie.Start → SearchState
+given s = let a = s .args in stateOf (a .taken) (a .node) (a .minima) (a .first) (a .places .now) (a .heights .now) (a .recent .now)
+
+-- the position passed
+passed : (c : tie.Else1) → goodPosition (patternsOf (begun (c .before) .args .set .now)) (positionOf (given (begun (c .before)))) ≡ true
+passed c = sym (c .before .position-is-good .ensures) ∙ not-false _ (c .if1 .left)
+
+position-is-good-requires : tie.Need-position-is-good-requires
+position-is-good-requires c κs = search needs
 
 returns : tie.Need-returns
 returns c =
-    let s = c .before .before .before .before in
-    state-outside (patternsOf (s .args .set .now)) (s .args .state) (omega (arith, c .if1 .taken, s .pre .nodes))
+    let s = begun (c .before) in
+    let st = given s in
+    let kept = goodRecent (st .taken) (positionOf st .ring) (st .recent) in
+    let bad = sym (c .before .position-is-good .ensures) ∙ not-true _ (c .if1 .taken) in
+    ap (λ (b : Bool). b && kept) (sym bad) ∙ good-both (patternsOf (s .args .set .now)) st
 
-depth-requires : tie.Need-depth-requires
-depth-requires c κs = search needs
-
-cast-if2 : tie.Need-cast-if2
-cast-if2 c = search needs
+recent-are-good-requires : tie.Need-recent-are-good-requires
+recent-are-good-requires c κs =
+    let s = begun (c .before) in
+    let st = given s in
+    let ring = positionOf st .ring in
+    good-few (st .taken) ring (good (st .taken) ring (accepted (patternsOf (s .args .set .now)) (positionOf st) (passed c) .ring))
 
 returns-2 : tie.Need-returns-2
 returns-2 c =
-    let D = c .before in
-    let s = D .before .before .before .before .before in
-    state-deep (patternsOf (s .args .set .now)) (s .args .state) (omega (arith, D .before .if1 .left, s .pre .nodes))
-    (omega (arith, D .depth .ensures, c .if2 .taken))
-
-returns-3 : tie.Need-returns-3
-returns-3 c =
-    let D = c .before .before in
-    let s = D .before .before .before .before .before in
-    state-long (patternsOf (s .args .set .now)) (s .args .state) (omega (arith, D .before .if1 .left, s .pre .nodes))
-    (omega (arith, D .depth .ensures, c .before .if2 .left)) (c .if3 .taken)
-
-has-minimum-requires : tie.Need-has-minimum-requires
-has-minimum-requires c κs = search needs
-
-returns-4 : tie.Need-returns-4
-returns-4 c =
-    let M = c .before in
-    let s = M .before .before .before .before .before .before .before .before in
-    state-empty (patternsOf (s .args .set .now)) (s .args .state) (sym (M .has-minimum .ensures) ∙ not-true _ (c .if4 .taken))
-
-minima-are-good-requires : tie.Need-minima-are-good-requires
-minima-are-good-requires c κs = search needs
-
-returns-5 : tie.Need-returns-5
-returns-5 c =
-    let e4 = c .before .before .before .before .before in
-    let e3 = e4 .before .before in
-    let e2 = e3 .before in
-    let D = e2 .before in
-    let s = D .before .before .before .before .before in
-    c .minima-are-good .ensures
-    ∙ state-minima (patternsOf (s .args .set .now)) (s .args .state) (omega (arith, D .before .if1 .left, s .pre .nodes))
-    (omega (arith, D .depth .ensures, e2 .if2 .left)) (e3 .if3 .left)
-    (sym (e4 .before .has-minimum .ensures) ∙ not-false _ (e4 .if4 .left))
+    let e = c .before in
+    let s = begun (e .before) in
+    let st = given s in
+    let kept = goodRecent (st .taken) (positionOf st .ring) (st .recent) in
+    c .recent-are-good .ensures ∙ ap (λ (b : Bool). b && kept) (sym (passed e)) ∙ good-both (patternsOf (s .args .set .now)) st
 
 pub state-is-good-spec : {M : Type 1} → statement M
-state-is-good-spec =
-    tie.close
-    (tie.spec cast-node returns depth-requires cast-if2 returns-2 returns-3 has-minimum-requires returns-4 minima-are-good-requires returns-5)
+state-is-good-spec = tie.close (tie.spec position-is-good-requires returns recent-are-good-requires returns-2)

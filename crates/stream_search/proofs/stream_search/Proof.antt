@@ -19,7 +19,7 @@ enum-known-k c = search needs
 
 search-on-requires : tie.Need-search-on-requires
 search-on-requires c κs =
-    let k = c .before .before in
+    let k = c .before .before .before in
     let checked = k .before .before in
     let a = atStart checked .args in
     subst (λ (r : SearchSize). IsChecked (a .set .now) (a .automaton .now) r) (k .k .given .1) (checked .check-search .ensures)
@@ -33,8 +33,11 @@ refused-requires c κs = search needs
 same-length : tie.Need-same-length
 same-length c = search needs
 
+same-length-2 : tie.Need-same-length-2
+same-length-2 c = search needs
+
 returns : tie.Need-returns
-returns c = c .before .before .search-on .ensures
+returns c = c .before .before .before .search-on .ensures
 
 returns-2 : tie.Need-returns-2
 returns-2 c =
@@ -43,8 +46,8 @@ returns-2 c =
     let a = atStart checked .args in
     let met = subst (λ (r : SearchSize). IsChecked (a .set .now) (a .automaton .now) r) (r .r .given .1) (checked .check-search .ensures) in
     let told = c .refused .ensures in
-    let e = unchecked (a .set .now) (a .automaton .now) (a .state) (a .values .now) (a .hits .now) (r .r .given .0 .0) met in
-    (told .1 ∙ e .0, (told .0 ∙ e .1, e .2))
+    let e = unchecked (a .set .now) (a .automaton .now) (a .state) (a .values .now) (a .hits .now) (a .rises .now) (r .r .given .0 .0) met in
+    (told .1 ∙ e .0, (told .0 ∙ e .1, (e .2, e .3)))
 
 pub stream-search-spec : {M : Type 1} → statement M
 stream-search-spec =
@@ -56,5 +59,6 @@ stream-search-spec =
     enum-known-r
     refused-requires
     same-length
+    same-length-2
     returns
     returns-2)

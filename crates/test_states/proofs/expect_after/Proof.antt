@@ -19,8 +19,8 @@ is-none-requires c κs = search needs
 returns : tie.Need-returns
 returns c = λ h. clash h (sym (c .before .is-none .ensures) ∙ not-true _ (c .if1 .taken))
 
-expect-minima-requires : tie.Need-expect-minima-requires
-expect-minima-requires c κs = search needs
+expect-arrays-requires : tie.Need-expect-arrays-requires
+expect-arrays-requires c κs = search needs
 
 wide-requires-2 : tie.Need-wide-requires-2
 wide-requires-2 c κs = search needs
@@ -50,7 +50,7 @@ expect-after-spec =
     expect-size-requires
     is-none-requires
     returns
-    expect-minima-requires
+    expect-arrays-requires
     wide-requires-2
     expect-node-requires
     first-requires

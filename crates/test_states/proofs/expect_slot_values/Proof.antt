@@ -1,7 +1,7 @@
 -- `expect_slot_values` meets its contract: the place found is behind the end, or what it holds
 -- differs.
-use Rattle.lists.proofs.Prelude.{_∙_, ap, refl, ℕ, pos, getD, le-leb, lt-leb, w32, toZ-ofZ, arith, needs}
-use Rattle.test_inputs.specs.Arrays.{eqZ, alike}
+use Rattle.lists.proofs.Prelude.{_∙_, ap, refl, ℕ, pos, eqZ, getD, le-leb, lt-leb, w32, toZ-ofZ, arith, needs}
+use Rattle.test_inputs.specs.Arrays.{alike}
 use Rattle.test_differences.specs.Difference.{comparedValue}
 use Rattle.test_states.specs.States.{comparedSlotValues}
 use Rattle.test_states.proofs.expect_slot_values.Statement.{statement}

@@ -1,28 +1,13 @@
--- `next_call` is safe.
+-- `next_call` is safe and ends.
 use Rattle.lists.proofs.Prelude.{length-take, arith, needs}
 use Rattle.cases_hits.proofs.searching.next_call.Statement.{statement}
 use Rattle.cases_hits.proofs.searching.next_call.Tie as tie
 
-wide-requires : tie.Need-wide-requires
-wide-requires c κs = search needs
+call-requires : tie.Need-call-requires
+call-requires c κs = search needs
 
 smaller-requires : tie.Need-smaller-requires
 smaller-requires c κs = search needs
-
-mul-make-call : tie.Need-mul-make-call
-mul-make-call c = search needs
-
-sub-make-call : tie.Need-sub-make-call
-sub-make-call c = search needs
-
-part-make-call-start : tie.Need-part-make-call-start
-part-make-call-start c = search needs
-
-part-make-call-end : tie.Need-part-make-call-end
-part-make-call-end c = search needs
-
-make-call-requires : tie.Need-make-call-requires
-make-call-requires c κs = search needs
 
 slice-reshare-prefix-pass : tie.Need-slice-reshare-prefix-pass
 slice-reshare-prefix-pass c = search needs
@@ -49,13 +34,8 @@ pub next-call-spec : {M : Type 1} → statement M
 next-call-spec =
     tie.close
     (tie.spec
-    wide-requires
+    call-requires
     smaller-requires
-    mul-make-call
-    sub-make-call
-    part-make-call-start
-    part-make-call-end
-    make-call-requires
     slice-reshare-prefix-pass
     slice-aggregate-pass
     pass-requires

@@ -25,19 +25,28 @@ stream-search-requires c κs = search needs
 summary-of-requires : tie.Need-summary-of-requires
 summary-of-requires c κs = search needs
 
+-- where the call begins, from the search
+abbrev begun : tie.After-stream-search → tie.Start
+begun c = c .before .before .before .before .before .before .before .before
+
+-- the search, from what its answer tells
+abbrev searched : tie.After-summary-of → tie.After-stream-search
+searched c = c .before .before .before .before .before
+
 write-lines-requires : tie.Need-write-lines-requires
 write-lines-requires c κs =
-    let s = c .before .before .before .before .before .before .before .before in
-    let S = s .before .before .before .before .before .before .before in
+    let told = c .before .before .before .before in
+    let s = searched told in
     let E = s .stream-search .ensures in
-    let t = c .before .before .before .before .summary-of .ensures in
-    let room = s .before .before .smaller .ensures in
+    let t = told .summary-of .ensures in
+    let room = s .before .before .before .smaller .ensures in
     let e = ap (λ z. z .0) (sym (E .0)) ∙ sym (ap (λ z. z .0) t) ∙ c .before .before .if1 .taken in
-    let n = told-count _ _ _ _ _ _ e (E .1 .1) (search needs) _ _ _ _ (t ∙ ap summary (E .0)) in (
-      accepted-set _ _ _ _ _ e,
+    let w = E .1 .1 .0 in
+    let n = told-count _ _ _ _ _ _ _ e w (search needs) _ _ _ _ (t ∙ ap summary (E .0)) in (
+      accepted-set _ _ _ _ _ _ e,
       (
-        (told-fit _ _ _ _ _ _ e (E .1 .1) (search needs) _ _ n, told-below _ _ _ _ _ _ e (E .1 .1) (search needs) _ _ n),
-        told-lines _ _ _ _ _ _ e (E .1 .1) (search needs) _ (S .args .out .now) n (simp length-take (omega (arith, room .2))),
+        (told-fit _ _ _ _ _ _ _ e w (search needs) _ _ n, told-below _ _ _ _ _ _ _ e w (search needs) _ _ n),
+        told-lines _ _ _ _ _ _ _ e w (search needs) _ (begun s .args .out .now) n (simp length-take (omega (arith, room .2))),
       ),
     )
 
@@ -47,32 +56,38 @@ same-length c = search needs
 same-length-2 : tie.Need-same-length-2
 same-length-2 c = search needs
 
-returns : tie.Need-returns
-returns c =
-    let told = c .before .before .before .before .before .before .before in
-    let s = told .before .before .before .before in
-    let a = s .before .before .before .before .before .before .before .args in
-    let E = s .stream-search .ensures in
-    let room = s .before .before .smaller .ensures in
-    let W = c .before .before .write-lines .ensures in
-    let r =
-    called-accepted (a .set .now) (a .automaton .now) (a .state) (a .values .now) (a .hits .now) (a .out .now) _ _ _ _ (room .0) (room .1)
-    (told .summary-of .ensures ∙ ap summary (E .0)) (E .1 .0) (E .1 .1) (c .before .before .before .before .before .if1 .taken) (search needs)
-    (W .0 .0, W .1) in
-    (r, called-fits _ _ _ _ _ _ _ _ _ r)
-
 same-length-3 : tie.Need-same-length-3
 same-length-3 c = search needs
 
+returns : tie.Need-returns
+returns c =
+    let told = c .before .before .before .before .before .before .before in
+    let s = searched told in
+    let a = begun s .args in
+    let E = s .stream-search .ensures in
+    let room = s .before .before .before .smaller .ensures in
+    let W = c .before .before .write-lines .ensures in
+    let r =
+    called-accepted (a .set .now) (a .automaton .now) (a .state) (a .values .now) (a .hits .now) (a .rises .now) _ (a .out .now) _ _ _ _ (room .0) (room .1)
+    (told .summary-of .ensures ∙ ap summary (E .0)) (E .1 .0) (E .1 .1 .0) (E .1 .1 .1) (c .before .before .before .before .before .if1 .taken) (search needs)
+    (W .0 .0, W .1) in
+    (r, called-fits _ _ _ _ _ _ _ _ _ _ _ r)
+
+same-length-4 : tie.Need-same-length-4
+same-length-4 c = search needs
+
+same-length-5 : tie.Need-same-length-5
+same-length-5 c = search needs
+
 returns-2 : tie.Need-returns-2
 returns-2 c =
-    let s = c .before .before .before .before .before .before in
-    let a = s .before .before .before .before .before .before .before .args in
+    let told = c .before .before in
+    let s = searched told in
+    let a = begun s .args in
     let E = s .stream-search .ensures in
-    let t = c .before .before .summary-of .ensures in
-    let room = s .before .before .smaller .ensures in (
-      called-refused (a .set .now) (a .automaton .now) (a .state) (a .values .now) (a .hits .now) (a .out .now) _ _ _ _ (room .0) (room .1)
-          (t ∙ ap summary (E .0)) (E .1 .0) (E .1 .1) (c .if1 .left) refl refl,
+    let room = s .before .before .before .smaller .ensures in (
+      called-refused (a .set .now) (a .automaton .now) (a .state) (a .values .now) (a .hits .now) (a .rises .now) _ (a .out .now) _ _ _ _ (room .0) (room .1)
+          (told .summary-of .ensures ∙ ap summary (E .0)) (E .1 .0) (E .1 .1 .0) (E .1 .1 .1) (c .if1 .left) refl refl,
       omega arith,
     )
 
@@ -89,6 +104,8 @@ make-call-spec =
     write-lines-requires
     same-length
     same-length-2
-    returns
     same-length-3
+    returns
+    same-length-4
+    same-length-5
     returns-2)

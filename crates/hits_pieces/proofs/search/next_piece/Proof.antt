@@ -2,7 +2,7 @@
 -- one call more leaves, and each brings the search nearer to its end (`next-less`).
 use Rattle.lists.proofs.Prelude.{_∙_, refl, sym, subst, _<_, length, needs}
 use Rattle.lists.proofs.Tests.{clash}
-use Rattle.hits_calls.specs.Called.{lent}
+use Rattle.hits_calls.specs.Called.{hitFront}
 use Rattle.hits_printed.specs.Pieces.{Progress}
 use Rattle.hits_pieces.specs.Said.{progressOf, left}
 use Rattle.hits_pieces.proofs.Next.{piece-closing}
@@ -36,16 +36,19 @@ same-length-2 c = search needs
 same-length-3 : tie.Need-same-length-3
 same-length-3 c = search needs
 
+same-length-4 : tie.Need-same-length-4
+same-length-4 c = search needs
+
 returns-2 : tie.Need-returns-2
 returns-2 c =
-    let w = c .before .before .before .before in
-    let s = w .before .before .before .before .before .before .before .before in
+    let w = c .before .before .before .before .before in
+    let s = w .before .before .before .before .before .before .before .before .before in
     let a = s .args in
     let q = w .call-once .ensures in
     let n = length (a .text .now) in (
       q,
       λ e. subst (λ (p : Progress). left n p < left n (progressOf (a .p))) (sym (q .progress))
-          (next-less (a .set .now) (a .automaton .now) (a .text .now) (length (lent (a .hits .now) (a .out .now))) (progressOf (a .p)) (sym (q .more) ∙ e)),
+          (next-less (a .set .now) (a .automaton .now) (a .text .now) (length (hitFront (a .hits .now) (a .out .now))) (progressOf (a .p)) (sym (q .more) ∙ e)),
     )
 
 pub next-piece-spec : {M : Type 1} → statement M
@@ -58,4 +61,5 @@ next-piece-spec =
     call-once-requires
     same-length-2
     same-length-3
+    same-length-4
     returns-2)

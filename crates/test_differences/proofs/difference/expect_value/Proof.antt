@@ -1,7 +1,6 @@
 -- `expect_value` meets its contract: the machine compares the bits of the values.
-use Rattle.lists.proofs.Prelude.{_≡_, _∙_, ap, ap₂, sym, refl, false, eq-eqb, ne-eqb, ℕ, w32, toZ-ofZ, needs}
-use Rattle.test_inputs.specs.Arrays.{eqZ}
-use Rattle.test_inputs.proofs.Alike.{bits-same}
+use Rattle.lists.proofs.Prelude.{_≡_, _∙_, ap, ap₂, sym, refl, false, eq-eqb, ne-eqb, ℕ, eqZ, w32, toZ-ofZ, needs}
+use Rattle.lists.proofs.Order.{bits-same}
 use Rattle.test_differences.specs.declared.difference.Part.{Part}
 use Rattle.test_differences.specs.declared.difference.Difference.{Difference}
 use Rattle.test_differences.specs.Difference.{lifted, comparedValue}

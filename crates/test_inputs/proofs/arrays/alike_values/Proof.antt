@@ -1,8 +1,9 @@
 -- `alike_values` meets its contract: what is counted up to a place, and how far the rest agrees, is
 -- the whole.
-use Rattle.lists.proofs.Prelude.{_≡_, _∙_, _+_, _-_, _≤_, pos, drop, zero-add, sym, eq-eqb, ne-eqb, true, false, getD, arith, needs}
-use Rattle.test_inputs.specs.Arrays.{eqZ, alike}
-use Rattle.test_inputs.proofs.Alike.{alike-more, alike-stop, alike-end, bits-same}
+use Rattle.lists.proofs.Prelude.{_≡_, _∙_, _+_, _-_, _≤_, pos, eqZ, drop, zero-add, sym, eq-eqb, ne-eqb, true, false, getD, arith, needs}
+use Rattle.lists.proofs.Order.{bits-same}
+use Rattle.test_inputs.specs.Arrays.{alike}
+use Rattle.test_inputs.proofs.Alike.{alike-more, alike-stop, alike-end}
 use Rattle.test_inputs.proofs.arrays.alike_values.Statement.{statement}
 use Rattle.test_inputs.proofs.arrays.alike_values.Tie as tie
 
