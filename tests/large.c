@@ -401,7 +401,7 @@ static void full_set(void)
     c = finder_build_automaton(set, USED, automaton, 16 * 4097 - 1);
     check(c.refusal == 10 && c.first == 0 && c.second == 0 && held(automaton, 0, AUTOMATON) == AUTOMATON, "an automaton array one word too short is 10");
     c = finder_build_automaton(set, USED, automaton, AUTOMATON);
-    check(c.refusal == 0 && c.first > 64 && c.first <= 4097 && c.second == 2 * 64 + 1 + 8 * c.first, "the automaton of the full set is built");
+    check(c.refusal == 0 && c.first > 64 && c.first <= 4097 && c.second == 2 * 64 + 16 * c.first - 7, "the automaton of the full set is built");
     check(held(automaton, c.second, AUTOMATON) == AUTOMATON, "words behind it keep their values");
 
     listed = list_plainly(set, text, TEXT, plain);

@@ -1,22 +1,39 @@
--- EIGHT WORDS SIDE BY SIDE, those of a record: stored one after the other, and compared one by one.
-use Rattle.lists.proofs.Prelude.{_≡_, _∙_, ap, sym, true, false, List, [], _∷_, _++_, ℕ, suc, _+_, _≤_, _<_, length, getD, take, drop, set, length-drop}
-use Rattle.lists.proofs.Prelude.{length-take-le, getD-take, getD-drop, ext-getD, sets-eq, arith, same}
-use Rattle.lists.proofs.Same.{same-true, same-false}
+-- EIGHT WORDS SIDE BY SIDE, those of a row or of a record, stored one after the other and compared
+-- one by one; and sixteen, those of a row and of a record.
+use Rattle.lists.proofs.Prelude.{_≡_, _∙_, ap, sym, ap₂, true, false, _&&_, List, [], _∷_, _++_, ℕ, suc, _+_, _≤_, _<_, length, getD, take, drop, set}
+use Rattle.lists.proofs.Prelude.{length-drop}
+use Rattle.lists.proofs.Prelude.{length-append, length-take-le, getD-take, getD-drop, ext-getD, take-add, take-at, drop-drop, drop-append-add, drop-cons}
+use Rattle.lists.proofs.Prelude.{set-at, append-assoc, append-snoc, arith, same}
+use Rattle.lists.proofs.Prelude.{refl, Bool, cond, eqb, eqb-true, eqb-false, eq-eqb, ne-eqb, decLt}
+use Rattle.lists.proofs.Same.{same-true, same-false, same-append}
 
--- ---- eight stores side by side
+-- ---- stores
 
-pub store-eight : (xs : List ℕ) (at a b c d e f g h : ℕ) → at + 8 ≤ length xs
-    → set (set (set (set (set (set (set (set xs at a) (at + 1) b) (at + 2) c) (at + 3) d) (at + 4) e) (at + 5) f) (at + 6) g) (at + 7) h
-    ≡ take at xs ++ (a ∷ b ∷ c ∷ d ∷ e ∷ f ∷ g ∷ h ∷ []) ++ drop (at + 8) xs
-store-eight xs at a b c d e f g h l =
-    let p1 : at + 1 ≡ suc at = omega arith in
-    let p2 : at + 2 ≡ suc (suc at) = omega arith in
-    let p3 : at + 3 ≡ suc (suc (suc at)) = omega arith in
-    let p4 : at + 4 ≡ suc (suc (suc (suc at))) = omega arith in
-    let p5 : at + 5 ≡ suc (suc (suc (suc (suc at)))) = omega arith in
-    let p6 : at + 6 ≡ suc (suc (suc (suc (suc (suc at))))) = omega arith in
-    let p7 : at + 7 ≡ suc (suc (suc (suc (suc (suc (suc at)))))) = omega arith in
-    rw (p1, p2, p3, p4, p5, p6, p7) (sets-eq (a ∷ b ∷ c ∷ d ∷ e ∷ f ∷ g ∷ h ∷ []) xs at l)
+-- one word more behind those that are stored from `at` on
+pub store-more : (xs ws : List ℕ) (at i v : ℕ) → length ws ≡ i → at + i < length xs
+    → set (take at xs ++ ws ++ drop (at + i) xs) (at + i) v ≡ take at xs ++ (ws ++ (v ∷ [])) ++ drop (at + (i + 1)) xs
+store-more xs ws at i v e h =
+    let f = take at xs ++ ws in
+    let l : length f ≡ at + i = length-append (take at xs) ws ∙ (omega (arith, length-take-le at xs (omega arith))) in
+    let n : suc (at + i) ≡ at + (i + 1) = omega arith in
+    ap (λ (z : List ℕ). set (f ++ z) (at + i) v) (drop-cons xs (at + i) 0 h)
+    ∙ set-at f (getD xs (at + i) 0) (drop (suc (at + i)) xs) v (at + i) l
+    ∙ sym (append-snoc f v (drop (suc (at + i)) xs))
+    ∙ ap₂ (λ (z : List ℕ) (j : ℕ). z ++ drop j xs) (append-assoc (take at xs) ws (v ∷ [])) n
+
+-- a row and behind it a record
+pub store-both : (xs row rec : List ℕ) (at : ℕ) → length row ≡ 8 → at + 16 ≤ length xs
+    → take (at + 8) (take at xs ++ row ++ drop (at + 8) xs) ++ rec ++ drop (at + 8 + 8) (take at xs ++ row ++ drop (at + 8) xs)
+    ≡ take at xs ++ (row ++ rec) ++ drop (at + 16) xs
+store-both xs row rec at e h =
+    let f = take at xs ++ row in
+    let l : length f ≡ at + 8 = length-append (take at xs) row ∙ (omega (arith, length-take-le at xs (omega arith))) in
+    let p : at + 8 + 8 ≡ length f + 8 = omega arith in
+    let q : at + 8 + 8 ≡ at + 16 = omega arith in
+    let y : drop (at + 8 + 8) (f ++ drop (at + 8) xs) ≡ drop (at + 16) xs =
+    ap (λ (j : ℕ). drop j (f ++ drop (at + 8) xs)) p ∙ drop-append-add f (drop (at + 8) xs) 8 ∙ drop-drop 8 (at + 8) xs ∙ ap (λ (j : ℕ). drop j xs) q in
+    ap₂ (λ (u z : List ℕ). u ++ rec ++ z) (take-at f (drop (at + 8) xs) (at + 8) l) y
+    ∙ ap (λ (u : List ℕ). u ++ drop (at + 16) xs) (append-assoc (take at xs) row rec)
 
 -- ---- eight elements side by side
 
@@ -30,3 +47,56 @@ module _ (xs ys : List ℕ) (at : ℕ) where
   pub eight-differ : (i : ℕ) → i < 8 → (getD xs (at + i) 0 ≡ getD ys i 0 → ⊥) → same (take 8 (drop at xs)) ys ≡ false
   eight-differ i h f =
       same-false (take 8 (drop at xs)) ys (λ e. f (sym (getD-take 8 (drop at xs) i 0 h ∙ getD-drop at xs i 0) ∙ ap (λ (l : List ℕ). getD l i 0) e))
+
+-- of the first i words so many are the same
+pub record Alike (xs ys : List ℕ) (at count i : ℕ) : Type 0 where
+  pub within : count ≤ i
+  pub all : count ≡ i → (a : ℕ) → a < i → getD xs (at + a) 0 ≡ getD ys a 0
+  pub some : count < i → (a : ℕ) × (a < i) × (getD xs (at + a) 0 ≡ getD ys a 0 → ⊥)
+
+module _ (xs ys : List ℕ) (at : ℕ) where
+  pub alike-none : Alike xs ys at 0 0
+  alike-none =
+      record { within = omega arith; all = λ e a l. absurd (let z : ⊥ = omega arith in z); some = λ l. absurd (let z : ⊥ = omega arith in z) }
+
+  pub alike-more : (count i r : ℕ) → Alike xs ys at count i → r ≡ cond (eqb (getD xs (at + i) 0) (getD ys i 0)) 1 0 → Alike xs ys at (count + r) (i + 1)
+  alike-more count i r w e = go (eqb (getD xs (at + i) 0) (getD ys i 0)) refl
+    where
+      go : (b : Bool) → eqb (getD xs (at + i) 0) (getD ys i 0) ≡ b → Alike xs ys at (count + r) (i + 1)
+      go true t =
+          let one : r ≡ 1 = e ∙ ap (λ (b : Bool). cond b 1 0) t in
+          let here = eqb-true (getD xs (at + i) 0) (getD ys i 0) t in
+          record {
+            within = omega (arith, w .within);
+            all = λ q a l. below a (decLt a i) l (w .all (omega arith)) here;
+            some = λ l. let d = w .some (omega arith) in (d .0, omega (arith, d .1), d .2);
+          }
+        where
+          below : (a : ℕ) → Dec (a < i) → a < i + 1 → ((a : ℕ) → a < i → getD xs (at + a) 0 ≡ getD ys a 0) → getD xs (at + i) 0 ≡ getD ys i 0
+              → getD xs (at + a) 0 ≡ getD ys a 0
+          below a (yes d) l f h = f a d
+          below a (no d) l f h = let q : a ≡ i = omega arith in ap (λ (j : ℕ). getD xs (at + j) 0) q ∙ h ∙ ap (λ (j : ℕ). getD ys j 0) (sym q)
+      go false t =
+          let none : r ≡ 0 = e ∙ ap (λ (b : Bool). cond b 1 0) t in
+          record {
+            within = omega (arith, w .within);
+            all = λ q. absurd (let z : ⊥ = omega (arith, w .within) in z);
+            some = λ l. (i, omega arith, eqb-false (getD xs (at + i) 0) (getD ys i 0) t);
+          }
+
+-- all of eight, or not
+pub alike-eight : (xs ys : List ℕ) (at count : ℕ) → at + 8 ≤ length xs → length ys ≡ 8 → Alike xs ys at count 8 → eqb count 8 ≡ same (take 8 (drop at xs)) ys
+alike-eight xs ys at count l e w = go (decLt count 8)
+  where
+    go : Dec (count < 8) → eqb count 8 ≡ same (take 8 (drop at xs)) ys
+    go (yes d) = let s = w .some d in ne-eqb count 8 (λ q. omega arith) ∙ sym (eight-differ xs ys at (s .0) (s .1) (s .2))
+    go (no d) = let q : count ≡ 8 = omega (arith, w .within) in eq-eqb count 8 q ∙ sym (eight-same xs ys at l e (w .all q))
+
+-- ---- a row and behind it a record
+
+pub both-same : (xs row rec : List ℕ) (at : ℕ) → length row ≡ 8 → at + 16 ≤ length xs
+    → same (take 16 (drop at xs)) (row ++ rec) ≡ same (take 8 (drop at xs)) row && same (take 8 (drop (at + 8) xs)) rec
+both-same xs row rec at e h =
+    let l : length (take 8 (drop at xs)) ≡ 8 = length-take-le 8 (drop at xs) (rw length-drop (omega arith)) in
+    ap (λ (l : List ℕ). same l (row ++ rec)) (take-add 8 8 (drop at xs) ∙ ap (λ (z : List ℕ). take 8 (drop at xs) ++ take 8 z) (drop-drop 8 at xs))
+    ∙ same-append (take 8 (drop at xs)) row (take 8 (drop (at + 8) xs)) rec (l ∙ sym e)

@@ -1,6 +1,6 @@
 -- THE ENTRIES, for each way through them: the refusals of the builder, what it tells and leaves,
 -- and the tests of the check.
-use Rattle.lists.proofs.Prelude.{_≡_, _∙_, ap, sym, refl, ap₂, false, List, [], _∷_, _++_, flatten, ℕ, _+_, _*_, _≤_, _<_, ltb, length, getD}
+use Rattle.lists.proofs.Prelude.{_≡_, _∙_, ap, sym, refl, ap₂, false, List, [], _∷_, _++_, flatten, ℕ, _+_, _-_, _*_, _≤_, _<_, ltb, length, getD}
 use Rattle.lists.proofs.Prelude.{take, drop, length-take, take-take, arith, lt-ltb, le-ltb, begins, same}
 use Rattle.lists.proofs.Parts.{getD-front}
 use Rattle.lists.proofs.Same.{same-false, false-same}
@@ -74,7 +74,7 @@ module _ (ws words : List ℕ) (good : IsSet ws) (some : 0 < length (patternsOf 
 
     pub front-made : length (automatonWords (patternsOf ws)) ≤ length words → Made ws words k 0
     front-made h =
-        let s : 2 * k + 1 + 8 * 0 ≡ 2 * k + 1 = omega arith in
+        let s : 2 * k + 1 + (16 * 0 - 8) ≡ 2 * k + 1 = omega arith in
         record {
           isSet = good;
           patterns = e;

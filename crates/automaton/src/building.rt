@@ -22,23 +22,48 @@ pub(crate) fn write_front(set: &[u32], k: usize, out: &mut [u32]) -> usize
     count
 }
 
+// Stores eight words from `at` on.
+fn store_eight(out: &mut [u32], at: usize, words: &[u32; 8])
+    requires { ⌜ (at + 8 ≤ length (now out)) × (length (now words) ≡ 8) ⌝ }
+    ensures { λ _. ⌜ now (out .exit) ≡ take at (now (out .entry)) ++ now (words .entry) ++ drop (at + 8) (now (out .entry)) ⌝ }
+{
+    let mut i = 0;
+    while i < 8 {
+        out[at + i] = words[i];
+        i += 1;
+    }
+}
+
 // Stores the words of a record from `at` on.
 fn store_record(out: &mut [u32], at: usize, r: Record)
     requires { ⌜ at + 8 ≤ length (now out) ⌝ }
     ensures { λ _. ⌜ now (out .exit) ≡ take at (now (out .entry)) ++ recordWords r ++ drop (at + 8) (now (out .entry)) ⌝ }
 {
-    out[at] = r.depth;
-    out[at + 1] = r.label;
-    out[at + 2] = r.failure;
-    out[at + 3] = r.output;
-    out[at + 4] = r.first_child;
-    out[at + 5] = r.children;
-    out[at + 6] = r.first_place;
-    out[at + 7] = r.ends;
+    let words = [
+        r.depth,
+        r.label,
+        r.failure,
+        r.output,
+        r.first_child,
+        r.children,
+        r.first_place,
+        r.ends,
+    ];
+    store_eight(out, at, &words);
 }
 
-// The records of all nodes behind the number of nodes, each made from those before it; the words
-// behind stay as they were.
+// Stores the row of a node from `at` on, and behind it its record.
+fn store_node(out: &mut [u32], at: usize, row: &[u32; 8], r: Record)
+    requires { ⌜ (at + 16 ≤ length (now out)) × (length (now row) ≡ 8) ⌝ }
+    ensures { λ _. ⌜ now (out .exit)
+        ≡ take at (now (out .entry)) ++ (now (row .entry) ++ recordWords r) ++ drop (at + 16) (now (out .entry)) ⌝ }
+{
+    store_eight(out, at, row);
+    store_record(out, at + 8, r);
+}
+
+// The records of all nodes behind the number of nodes, each made from those before it, and before
+// each but that of the root the node's row; the words behind stay as they were.
 pub(crate) fn write_records(set: &[u32], k: usize, count: usize, out: &mut [u32])
     requires { ⌜ Made (now set) (now out) k 0 ⌝ }
     requires { ⌜ count ≡ length (nodes (patternsOf (now set))) ⌝ }
@@ -47,15 +72,16 @@ pub(crate) fn write_records(set: &[u32], k: usize, count: usize, out: &mut [u32]
 {
     let root = automaton_records::root_record(set);
     store_record(out, 2 * k + 1, root);
+    let mut row = [0u32; 8];
     let mut parent: usize = 0;
     let mut end: usize = 0;
     let mut n: usize = 1;
     while n < count {
         parent = automaton_records::next_parent(set, out, k, n, n, parent);
         let place = automaton_records::next_place(set, out, k, n, n, parent, end);
-        let made = automaton_records::make_record(set, out, k, n, parent, place);
+        let made = automaton_records::make_record(set, out, k, n, parent, place, &mut row);
         let record = made.record;
-        store_record(out, 2 * k + 1 + 8 * n, record);
+        store_node(out, 2 * k + 16 * n - 7, &row, record);
         end = made.end;
         n += 1;
     }

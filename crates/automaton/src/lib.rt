@@ -25,7 +25,7 @@ fn build_in(set: &[u32], k: usize, n: usize, out: &mut [u32]) -> Built
     }
     let count = building::write_front(set, k, out);
     building::write_records(set, k, count, out);
-    Built::Nodes(count, 2 * k + 1 + 8 * count)
+    Built::Nodes(count, 2 * k + 16 * count - 7)
 }
 
 // Writes the automaton of the set. Refuses 1 5 15 10.
@@ -51,7 +51,7 @@ pub fn is_automaton(set: &[u32], words: &[u32]) -> bool
         return false;
     }
     let count = casts::wide(words[2 * k]);
-    if words.len() < 2 * k + 1 + 8 * count {
+    if words.len() < 2 * k + 16 * count - 7 {
         return false;
     }
     checking::are_records(set, k, count, words)

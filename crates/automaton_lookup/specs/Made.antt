@@ -1,5 +1,5 @@
 -- An array with the first records of an automaton, and the child of a label.
-use Rattle.lists.specs.Prelude.{_≡_, cond, List, [], _∷_, _++_, ℕ, _+_, _*_, _≤_, _<_, length, take}
+use Rattle.lists.specs.Prelude.{_≡_, cond, List, [], _∷_, _++_, ℕ, _+_, _-_, _*_, _≤_, _<_, length, take}
 use Rattle.pattern_set.specs.PatternSet.{PatternSet, patternsOf, isSet, IsSet}
 use Rattle.matching.specs.Matching.{isHead}
 use Rattle.automaton_model.specs.Automaton.{nodes, headOf, nodeOf, automatonWords}
@@ -13,7 +13,7 @@ pub record Made (set automaton : List ℕ) (k m : ℕ) : Type 0 where
   pub filled : 0 < length (patternsOf set)
   -- m of the nodes
   pub within : m ≤ length (nodes (patternsOf set))
-  pub begun : take (2 * k + 1 + 8 * m) automaton ≡ take (2 * k + 1 + 8 * m) (automatonWords (patternsOf set))
+  pub begun : take (2 * k + 1 + (16 * m - 8)) automaton ≡ take (2 * k + 1 + (16 * m - 8)) (automatonWords (patternsOf set))
   pub room : length (automatonWords (patternsOf set)) ≤ length automaton
 
 -- all of them: the automaton of count nodes

@@ -4,7 +4,7 @@
 ghost use Rattle.lists.specs.Prelude.{_≡_, _+_, _-_, _≤_, _<_, length, getD};
 ghost use Rattle.pattern_set.specs.PatternSet.{patternsOf};
 ghost use Rattle.matching.specs.Matching.{failure, chain};
-ghost use Rattle.automaton_model.specs.Automaton.{nodes, headOf, nodeOf, order, sharedAt, endsAt, firstEnd, children, firstChild, recordOf};
+ghost use Rattle.automaton_model.specs.Automaton.{nodes, headOf, nodeOf, order, sharedAt, endsAt, firstEnd, children, firstChild, recordOf, entryOf};
 ghost use Rattle.automaton_lookup.specs.Made.{Made, childOf};
 ghost use Rattle.automaton_lookup.specs.Places.{placeOf};
 
@@ -40,7 +40,7 @@ fn field(set: &[u32], automaton: &[u32], k: usize, made: usize, node: usize, f: 
     requires { ⌜ (node < made) × (f < 8) ⌝ }
     ensures { λ r. ⌜ r ≡ getD (recordOf (patternsOf (now (set .entry))) node) f 0 ⌝ }
 {
-    casts::wide(automaton[2 * k + 1 + 8 * node + f])
+    casts::wide(automaton[2 * k + 1 + 16 * node + f])
 }
 
 // The number of distances of the node's head.
@@ -115,6 +115,16 @@ pub fn ends(set: &[u32], automaton: &[u32], k: usize, made: usize, node: usize) 
     ensures { λ r. ⌜ r ≡ endsAt (patternsOf (now (set .entry))) (headOf (patternsOf (now (set .entry))) node) ⌝ }
 {
     field(set, automaton, k, made, node, 7)
+}
+
+// What a step of distance x, at most 7, finds from a node other than the root, in one word: the
+// node that it leads to, and 65,536 for each attempt.
+pub fn entry(set: &[u32], automaton: &[u32], k: usize, made: usize, node: usize, x: usize) -> u32
+    requires { ⌜ Made (now set) (now automaton) k made ⌝ }
+    requires { ⌜ (0 < node) × (node < made) × (x < 8) ⌝ }
+    ensures { λ r. ⌜ r ≡ entryOf (patternsOf (now (set .entry))) node x ⌝ }
+{
+    automaton[2 * k + 16 * node + x - 7]
 }
 
 // The child of the given label; 0, the root, where there is none. The labels of the children rise:

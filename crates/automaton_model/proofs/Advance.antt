@@ -15,7 +15,7 @@ use Rattle.automaton_model.proofs.Chains.{zero-isHead}
 
 -- ---- the root's child
 
-cut-zero : (d : ℕ) → cut 0 d ≡ 0
+pub cut-zero : (d : ℕ) → cut 0 d ≡ 0
 cut-zero d = go (leb d 0) refl
   where
     go : (b : Bool) → leb d 0 ≡ b → cond b d 0 ≡ 0

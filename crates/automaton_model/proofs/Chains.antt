@@ -22,7 +22,7 @@ walk-zero [] t h = absurd (let z : ⊥ = omega arith in z)
 walk-zero (zero ∷ p) t h = refl
 walk-zero (suc d ∷ p) t h = absurd t
 
-first-zero : (p : List ℕ) → T (realizable p) → 0 < length p → take 1 p ≡ 0 ∷ []
+pub first-zero : (p : List ℕ) → T (realizable p) → 0 < length p → take 1 p ≡ 0 ∷ []
 first-zero p t h = walk-zero p (subst T (realizable-walk p) t) h
 
 pub zero-isHead : (ps : PatternSet) → T (goodSet ps) → 0 < length ps → T (isHead ps (0 ∷ []))

@@ -6,3 +6,4 @@ pub mod Lengths
 pub mod Chains
 pub mod Common
 pub mod Advance
+pub mod Steps

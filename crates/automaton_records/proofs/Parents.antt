@@ -9,7 +9,7 @@ use Rattle.automaton_model.proofs.Nodes.{node-head}
 use Rattle.automaton_model.proofs.Children.{child-is, child-head, parentNode, parentNode-lt, parentNode-child, child-number, child-larger, firstChild-rises}
 use Rattle.automaton_model.proofs.Children.{firstChild-within}
 use Rattle.automaton_lookup.specs.Places.{placeOf, endOf, ChildNode}
-use Rattle.automaton_records.proofs.Intervals.{first-child-place, next-child-place}
+use Rattle.automaton_rows.proofs.Intervals.{first-child-place, next-child-place}
 
 module _ (ps : PatternSet) (g : T (goodSet ps)) (z : 0 < length ps) where
   module _ (n : ℕ) (l : 0 < n) (h : n < length (nodes ps)) where

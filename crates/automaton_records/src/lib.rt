@@ -1,9 +1,10 @@
-// Making the record of one node of the automaton from the set and from the words before it, and
-// finding the node's parent and first place. The nodes are made by number, so `made` records are
-// there: for the record of node n those of the nodes before it. k is the number of patterns.
+// Making the record of one node of the automaton, and its row, from the set and from the words
+// before it, and finding the node's parent and first place. The nodes are made by number, so `made`
+// records are there: for the record of node n those of the nodes before it. k is the number of
+// patterns.
 ghost use Rattle.lists.specs.Prelude.{_≡_, [], _∷_, _++_, _+_, _-_, _≤_, _<_, T, length, getD};
 ghost use Rattle.matching.specs.Matching.{isHead, failure, chain};
-ghost use Rattle.automaton_model.specs.Automaton.{nodes, headOf, nodeOf, endsAt, firstEnd, children, firstChild, recordOf};
+ghost use Rattle.automaton_model.specs.Automaton.{nodes, headOf, nodeOf, endsAt, firstEnd, children, firstChild, recordOf, rowOf};
 ghost use Rattle.pattern_set.specs.PatternSet.{patternsOf, IsSet};
 ghost use Rattle.automaton_lookup.specs.Made.{Made};
 ghost use Rattle.automaton_lookup.specs.Places.{placeOf, endOf, ChildNode};
@@ -105,37 +106,6 @@ fn count_ends(
     i - place
 }
 
-// How many children node n has: the first begins behind the patterns that end there, and another
-// one at each place that shares just the head with the place before.
-fn count_children(
-    set: &[u32],
-    automaton: &[u32],
-    k: usize,
-    n: usize,
-    from: usize,
-    depth: usize,
-    end: usize,
-) -> usize
-    requires { ⌜ Made (now set) (now automaton) k n ⌝ }
-    requires { ⌜ (n < length (nodes (patternsOf (now set)))) × (depth ≡ length (headOf (patternsOf (now set)) n)) ⌝ }
-    requires { ⌜ from ≡ placeOf (patternsOf (now set)) n + endsAt (patternsOf (now set)) (headOf (patternsOf (now set)) n) ⌝ }
-    requires { ⌜ end ≡ endOf (patternsOf (now set)) n ⌝ }
-    ensures { λ r. ⌜ r ≡ children (patternsOf (now (set .entry))) n ⌝ }
-{
-    if end <= from {
-        return 0;
-    }
-    let mut count: usize = 1;
-    let mut i = from + 1;
-    while i < end {
-        if automaton_lookup::shared_at(set, automaton, k, n, i) == depth {
-            count += 1;
-        }
-        i += 1;
-    }
-    count
-}
-
 // The label of node n: the last of its head's distances, in the pattern at its first place.
 fn label_of(set: &[u32], automaton: &[u32], k: usize, n: usize, place: usize, depth: usize) -> u32
     requires { ⌜ Made (now set) (now automaton) k n ⌝ }
@@ -224,7 +194,8 @@ fn record_from(
     }
 }
 
-// The record of node n, a child of `parent` whose first place is given, from the records before it.
+// The record of node n, a child of `parent` whose first place is given, from the records before it;
+// and its row, into an array for it.
 pub fn make_record(
     set: &[u32],
     automaton: &[u32],
@@ -232,13 +203,15 @@ pub fn make_record(
     n: usize,
     parent: usize,
     place: usize,
+    row: &mut [u32; 8],
 ) -> MadeRecord
     requires { ⌜ Made (now set) (now automaton) k n ⌝ }
     requires { ⌜ (0 < n) × (n < length (nodes (patternsOf (now set)))) ⌝ }
     requires { ⌜ ChildNode (patternsOf (now set)) parent n ⌝ }
-    requires { ⌜ place ≡ placeOf (patternsOf (now set)) n ⌝ }
+    requires { ⌜ (place ≡ placeOf (patternsOf (now set)) n) × (length (now row) ≡ 8) ⌝ }
     ensures { λ r. ⌜ recordWords (r .record) ≡ recordOf (patternsOf (now (set .entry))) n ⌝ }
     ensures { λ r. ⌜ r .end ≡ endOf (patternsOf (now (set .entry))) n ⌝ }
+    ensures { λ _. ⌜ now (row .exit) ≡ rowOf (patternsOf (now (set .entry))) n ⌝ }
 {
     let depth = automaton_lookup::depth(set, automaton, k, n, parent) + 1;
     let label = label_of(set, automaton, k, n, place, depth);
@@ -247,7 +220,8 @@ pub fn make_record(
     let ends = count_ends(set, automaton, k, n, place, depth, end);
     let output = output_of(set, automaton, k, n, link, ends);
     let first = children_end(set, automaton, k, n, n - 1);
-    let count = count_children(set, automaton, k, n, place + ends, depth, end);
+    let from = place + ends;
+    let count = automaton_rows::make_row(set, automaton, k, n, link, first, from, depth, end, row);
     let record = record_from(depth, label, link, output, first, count, place, ends);
     MadeRecord { record, end }
 }

@@ -2,10 +2,11 @@
 -- members, each less 1. The size, the lowest member and the set without it follow by recursion on
 -- the count of digits.
 use lib.Arith.{lt-one}
-use lib.Bits.{bitAnd, bitOr, and-step, and-shr, or-shr, and-mod, or-mod, and-self}
+use lib.Bits.{bitAnd, bitOr, bitXor, and-step, and-shr, or-shr, xor-shr, and-mod, or-mod, xor-mod, and-self}
 use lib.Count.{ones, ones-step, trailingZeros, under}
-use Rattle.lists.proofs.Prelude.{_≡_, _∙_, ap, sym, refl, subst, ap₂, inl, inr, _⊎_, Bool, false, cond, _&&_, _||_, List, [], _∷_, map, ℕ, zero, suc, min, _+_}
-use Rattle.lists.proofs.Prelude.{_-_, _*_, _/_, _%_, _^_, _<_, eqb, eqb·suc-zero, eqb·suc-suc, eqb·zero-suc, length, drop, length-map, shr-shr, shr-lt}
+use Rattle.lists.proofs.Prelude.{_≡_, _∙_, ap, sym, refl, subst, ap₂, inl, inr, _⊎_, Bool, false, cond, not, _&&_, _||_, List, [], _∷_, map, ℕ, zero, suc, min}
+use Rattle.lists.proofs.Prelude.{_+_, _-_, _*_, _/_, _%_, _^_, _≤_, _<_, T, eqb, eqb·suc-zero, eqb·suc-suc, eqb·zero-suc, length, drop, length-map, shr-shr}
+use Rattle.lists.proofs.Prelude.{shr-lt}
 use Rattle.lists.proofs.Prelude.{add-zero, pow-suc, div-one, zero-min, min-zero, add-one, arith, tabulate, select}
 use Rattle.lists.proofs.Select.{select-ext, select-map}
 use Rattle.lists.proofs.Tables.{below-front}
@@ -124,7 +125,7 @@ rest-bitsBelow (suc n) m p = go (digit m) (rest-bitsBelow n (m / 2))
         ∙ sym (ap (drop 1) (bitsBelow-even n m e) ∙ drop-one-map suc (bitsBelow n (m / 2)))
     go (inr e) ih = ap (bitsBelow (suc n)) (clear-odd m e) ∙ bitsBelow-double n (m / 2) ∙ sym (ap (drop 1) (bitsBelow-odd n m e))
 
--- ---- the digits of a & b, of a | b and of 2 ^ i
+-- ---- the digits of a & b, of a | b, of a ^ b and of 2 ^ i
 
 -- two tests of two digits agree where they agree on the four pairs
 on-digits : (f g : ℕ → ℕ → Bool) → f 0 0 ≡ g 0 0 → f 0 1 ≡ g 0 1 → f 1 0 ≡ g 1 0 → f 1 1 ≡ g 1 1 → (x y : ℕ) → f (x % 2) (y % 2) ≡ g (x % 2) (y % 2)
@@ -151,6 +152,12 @@ bitAt-or a b j =
     ap (λ (x : ℕ). eqb (x % 2) 1) (or-shr a b j) ∙ ap (λ (x : ℕ). eqb x 1) (or-mod (a / 2 ^ j) (b / 2 ^ j) 1)
     ∙ on-digits (λ p q. eqb (bitOr p q) 1) (λ p q. eqb p 1 || eqb q 1) refl refl refl refl (a / 2 ^ j) (b / 2 ^ j)
 
+pub bitAt-xor : (a b j : ℕ) → bitAt (bitXor a b) j ≡ cond (bitAt a j) (not (bitAt b j)) (bitAt b j)
+unfolding bitAt
+bitAt-xor a b j =
+    ap (λ (x : ℕ). eqb (x % 2) 1) (xor-shr a b j) ∙ ap (λ (x : ℕ). eqb x 1) (xor-mod (a / 2 ^ j) (b / 2 ^ j) 1)
+    ∙ on-digits (λ p q. eqb (bitXor p q) 1) (λ p q. cond (eqb p 1) (not (eqb q 1)) (eqb q 1)) refl refl refl refl (a / 2 ^ j) (b / 2 ^ j)
+
 pub bitAt-none : (j : ℕ) → bitAt 0 j ≡ false
 bitAt-none zero = bitAt-zero 0
 bitAt-none (suc j) = bitAt-suc 0 j ∙ bitAt-none j
@@ -166,3 +173,19 @@ bitAt-pow (suc i) zero =
 bitAt-pow (suc i) (suc j) =
     bitAt-suc (2 ^ suc i) j ∙ ap (λ (x : ℕ). bitAt (x / 2) j) (pow-suc 2 i) ∙ ap (λ (x : ℕ). bitAt x j) (let e : 2 ^ i * 2 / 2 ≡ 2 ^ i = omega arith in e)
     ∙ bitAt-pow i j ∙ sym (eqb·suc-suc j i)
+
+-- ---- a set that lies in another is the smaller number
+
+pub subset-le : (n x y : ℕ) → x < 2 ^ n → ((j : ℕ) → j < n → T (bitAt x j) → T (bitAt y j)) → x ≤ y
+subset-le zero x y h f = omega (arith, lt-one h)
+subset-le (suc n) x y h f =
+    go (digit x) (digit y)
+    (subset-le n (x / 2) (y / 2) (half-lt n x h) (λ j k t. subst T (bitAt-suc y j) (f (suc j) (omega arith) (subst T (sym (bitAt-suc x j)) t))))
+  where
+    go : (x % 2 ≡ 0) ⊎ (x % 2 ≡ 1) → (y % 2 ≡ 0) ⊎ (y % 2 ≡ 1) → x / 2 ≤ y / 2 → x ≤ y
+    go (inl d) e k = omega arith
+    go (inr d) (inr e) k = omega arith
+    go (inr d) (inl e) k =
+        let t : T (bitAt x 0) = subst T (sym (bitAt-zero x)) (rw d tt) in
+        let u : T (eqb (y % 2) 1) = subst T (bitAt-zero y) (f 0 (omega arith) t) in
+        absurd (rw e at u)

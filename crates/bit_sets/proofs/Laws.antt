@@ -1,15 +1,18 @@
 -- What the functions on sets of numbers below 64 give, in the words of their contracts, and laws of
 -- such sets for callers.
-use lib.Bits.{bitAnd, bitOr, and-le-r, and-mask}
+use lib.Bits.{bitAnd, bitOr, bitXor, and-le-r, and-mask}
 use lib.Count.{ones, ones-le, trailingZeros}
-use Rattle.lists.proofs.Prelude.{_≡_, _∙_, ap, sym, _↔_, Bool, _||_, [], _∷_, List·Memᴰ, ℕ, _-_, _*_, _/_, _%_, _^_, _≤_, _<_, T, eqb, length, drop, pow-lt}
-use Rattle.lists.proofs.Prelude.{le-trans, le-of-eq, arith, tabulate, select}
+use Rattle.lists.proofs.Prelude.{Bool, List, List·Memᴰ, List·Memᴰ·cases-cons, List·Memᴰ·head, List·Memᴰ·tail, T, [], _%_, _&&_, _*_, _-_, _/_, _<_, _^_}
+use Rattle.lists.proofs.Prelude.{_||_, _↔_, _∙_, _∷_, _≡_, _≤_, _⊎_, ap, arith, cond, decLt, drop, eq-eqb, eqb, false, inl, inr, le-ltb, le-of-eq}
+use Rattle.lists.proofs.Prelude.{le-trans, length, lt-ltb, ltb, ne-eqb, not, pow-lt, refl, select, subst, suc, sym, tabulate, true, zero, ℕ}
 use Rattle.lists.proofs.Members.{mem-below}
-use Rattle.lists.proofs.Select.{mem-select}
+use Rattle.lists.proofs.Select.{mem-select, select-snoc-not}
 use Rattle.lists.proofs.SelectTable.{select-below-ext}
-use Rattle.lists.proofs.Tests.{or-comm}
+use Rattle.lists.proofs.Tests.{or-comm, and-false, and-split, and-join, test-ext, true-T, clash}
+use Rattle.lists.proofs.Rising.{Rising, rising-select, rising-below}
 use Rattle.bit_sets.specs.BitSets.{bitAt, bits}
-use Rattle.bit_sets.proofs.Digits.{bitsBelow, bitAt-or, bitAt-pow, bitsBelow-empty, length-bitsBelow, first-bitsBelow, rest-bitsBelow}
+use Rattle.bit_sets.proofs.Digits.{bitsBelow, bitAt-and, bitAt-or, bitAt-xor, bitAt-pow, bitsBelow-empty, length-bitsBelow, first-bitsBelow}
+use Rattle.bit_sets.proofs.Digits.{rest-bitsBelow, subset-le}
 
 -- ---- what the functions give
 
@@ -23,6 +26,14 @@ pub with-bit-is : (m i : ℕ) → i < 64 → (j : ℕ) → bitAt (bitOr m (1 * 2
 with-bit-is m i h j =
     let e : 1 * 2 ^ i % 18446744073709551616 ≡ 2 ^ i = omega (arith, pow-lt {i = i} {j = 64} h) in
     ap (λ (x : ℕ). bitAt (bitOr m x) j) e ∙ bitAt-or m (2 ^ i) j ∙ ap (λ (b : Bool). bitAt m j || b) (bitAt-pow i j) ∙ or-comm (bitAt m j) (eqb j i)
+
+-- what is in a and not in b, by an exclusive or
+pub without-is : (a b j : ℕ) → bitAt (bitXor a (bitAnd a b)) j ≡ (bitAt a j && not (bitAt b j))
+without-is a b j = bitAt-xor a (bitAnd a b) j ∙ ap (λ (c : Bool). cond (bitAt a j) (not c) c) (bitAt-and a b j) ∙ go (bitAt a j) (bitAt b j)
+  where
+    go : (x y : Bool) → cond x (not (x && y)) (x && y) ≡ (x && not y)
+    go true y = refl
+    go false y = refl
 
 pub size-is : (m : ℕ) → m < 2 ^ 64 → ones m ≡ length (bits m)
 unfolding bits bitsBelow
@@ -46,6 +57,27 @@ pub bits-by : (m : ℕ) (test : ℕ → Bool) → ((j : ℕ) → j < 64 → bitA
 unfolding bits
 bits-by m test h = select-below-ext (bitAt m) test 64 h
 
+-- the numbers below n that are below k and pass a test
+select-cut : (k : ℕ) (test : ℕ → Bool) (n : ℕ) → k ≤ n → select (λ j. ltb j k && test j) (tabulate n (λ i. i)) ≡ select test (tabulate k (λ i. i))
+unfolding tabulate
+select-cut k test zero l =
+    let e : k ≡ 0 = omega arith in
+    rw e (select-below-ext (λ j. ltb j 0 && test j) test 0 (λ j h. absurd (let z : ⊥ = omega arith in z)))
+select-cut k test (suc n) l = go (decLt n k) (select-cut k test n)
+  where
+    go : Dec (n < k) → (k ≤ n → select (λ j. ltb j k && test j) (tabulate n (λ i. i)) ≡ select test (tabulate k (λ i. i)))
+        → select (λ j. ltb j k && test j) (tabulate (suc n) (λ i. i)) ≡ select test (tabulate k (λ i. i))
+    go (yes a) ih =
+        let e : suc n ≡ k = omega arith in
+        subst (λ (m : ℕ). select (λ j. ltb j k && test j) (tabulate m (λ i. i)) ≡ select test (tabulate k (λ i. i))) (sym e)
+        (select-below-ext (λ j. ltb j k && test j) test k (λ j h. ap (λ (b : Bool). b && test j) (lt-ltb j k h)))
+    go (no a) ih =
+        select-snoc-not (λ j. ltb j k && test j) (tabulate n (λ i. i)) n (ap (λ (b : Bool). b && test n) (le-ltb n k (omega arith))) ∙ ih (omega arith)
+
+-- by a test of the numbers below k
+pub bits-below : (m k : ℕ) (test : ℕ → Bool) → k ≤ 64 → ((j : ℕ) → j < 64 → bitAt m j ≡ (ltb j k && test j)) → bits m ≡ select test (tabulate k (λ i. i))
+bits-below m k test h f = bits-by m (λ j. ltb j k && test j) f ∙ select-cut k test 64 h
+
 pub mem-bits : (m j : ℕ) → List·Memᴰ j (bits m) ↔ ((j < 64) × T (bitAt m j))
 unfolding bits
 mem-bits m j =
@@ -56,3 +88,48 @@ mem-bits m j =
 pub bits-zero : bits 0 ≡ []
 unfolding bits bitsBelow
 bits-zero = bitsBelow-empty 64
+
+-- without a member a set is a smaller number
+pub without-lt : (a b r i : ℕ) → r < 2 ^ 64 → ((j : ℕ) → j < 64 → bitAt r j ≡ (bitAt a j && not (bitAt b j))) → i < 64 → T (bitAt a i) → T (bitAt b i) → r < a
+without-lt a b r i h f k t u =
+    let le = subset-le 64 r a h (λ j l m. and-split (bitAt a j) (not (bitAt b j)) (subst T (f j l) m) .0) in
+    let out : bitAt r i ≡ false = f i k ∙ rw (true-T (bitAt b i) u) (and-false (bitAt a i)) in
+    let differ : r ≡ a → ⊥ = λ e. clash (true-T (bitAt a i) t) (ap (λ (m : ℕ). bitAt m i) (sym e) ∙ out) in
+    go (decLt r a) le differ
+  where
+    go : Dec (r < a) → r ≤ a → (r ≡ a → ⊥) → r < a
+    go (yes l) le d = l
+    go (no l) le d = absurd (d (omega arith))
+
+-- ---- the lowest member of a set
+
+bits-rise : (m : ℕ) → Rising (λ i j. i < j) (bits m)
+unfolding bits
+bits-rise m = rising-select (λ i j. i < j) (bitAt m) (tabulate 64 (λ i. i)) (rising-below 64)
+
+pub lowest-in : (m r : ℕ) → bits m ≡ r ∷ drop 1 (bits m) → T (bitAt m r)
+lowest-in m r e = mem-bits m r .0 (subst (λ (l : List ℕ). List·Memᴰ r l) (sym e) (List·Memᴰ·head refl)) .1
+
+-- without its lowest member a set has the others
+pub lowest-out : (m n r j : ℕ) → bits m ≡ r ∷ drop 1 (bits m) → bits n ≡ drop 1 (bits m) → j < 64 → bitAt n j ≡ (not (eqb j r) && bitAt m j)
+lowest-out m n r j e f h = test-ext (bitAt n j) (not (eqb j r) && bitAt m j) from to
+  where
+    above : List·Memᴰ j (drop 1 (bits m)) → r < j
+    above d = subst (λ (l : List ℕ). Rising (λ i j. i < j) l) e (bits-rise m) .0 j d
+
+    from : T (bitAt n j) → T (not (eqb j r) && bitAt m j)
+    from t =
+        let d : List·Memᴰ j (drop 1 (bits m)) = subst (λ (l : List ℕ). List·Memᴰ j l) f (mem-bits n j .1 (h, t)) in
+        let l = above d in
+        and-join (not (eqb j r)) (bitAt m j) (rw (ne-eqb j r (λ q. let z : ⊥ = omega arith in z)) tt)
+        (mem-bits m j .0 (subst (λ (l : List ℕ). List·Memᴰ j l) (sym e) (List·Memᴰ·tail d)) .1)
+
+    to : T (not (eqb j r) && bitAt m j) → T (bitAt n j)
+    to t =
+        let s = and-split (not (eqb j r)) (bitAt m j) t in
+        let d = List·Memᴰ·cases-cons (subst (λ (l : List ℕ). List·Memᴰ j l) e (mem-bits m j .1 (h, s .1))) in
+        mem-bits n j .0 (subst (λ (l : List ℕ). List·Memᴰ j l) (sym f) (rest (s .0) d)) .1
+      where
+        rest : T (not (eqb j r)) → (j ≡ r) ⊎ List·Memᴰ j (drop 1 (bits m)) → List·Memᴰ j (drop 1 (bits m))
+        rest u (inl q) = absurd (subst (λ (b : Bool). T (not b)) (eq-eqb j r q) u)
+        rest u (inr d) = d

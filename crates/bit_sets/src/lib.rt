@@ -1,5 +1,5 @@
 // A u64 as a set of numbers below 64: digit i is 1 where i is in the set.
-ghost use Rattle.lists.specs.Prelude.{_≡_, _&&_, _||_, _∷_, ℕ, _<_, eqb, length, drop};
+ghost use Rattle.lists.specs.Prelude.{_≡_, not, _&&_, _||_, _∷_, ℕ, _<_, eqb, length, drop};
 ghost use Rattle.bit_sets.specs.BitSets.{bitAt, bits};
 
 // Whether i is in the set.
@@ -23,6 +23,20 @@ pub fn common(a: u64, b: u64) -> u64
     ensures { λ r. ⌜ ((j : ℕ) → j < 64 → bitAt r j ≡ (bitAt a j && bitAt b j)) ⌝ }
 {
     a & b
+}
+
+// What is in one of the sets or in both.
+pub fn either(a: u64, b: u64) -> u64
+    ensures { λ r. ⌜ ((j : ℕ) → j < 64 → bitAt r j ≡ (bitAt a j || bitAt b j)) ⌝ }
+{
+    a | b
+}
+
+// What is in the first set and not in the second.
+pub fn without(m: u64, out: u64) -> u64
+    ensures { λ r. ⌜ ((j : ℕ) → j < 64 → bitAt r j ≡ (bitAt m j && not (bitAt out j))) ⌝ }
+{
+    m ^ (m & out)
 }
 
 // How many numbers are in the set.

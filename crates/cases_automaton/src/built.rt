@@ -22,7 +22,10 @@ fn room_of(set: &[u32]) -> usize {
 pub(crate) fn words_of(k: usize, n: usize) -> usize
     requires { ⌜ (k ≤ 64) × (n ≤ 16448) ⌝ }
 {
-    2 * k + 1 + 8 * n
+    if n == 0 {
+        return 2 * k + 1;
+    }
+    2 * k + 16 * n - 7
 }
 
 // Builds in the first words of an array.

@@ -40,12 +40,12 @@ fn expect_set(set: &[u32]) -> Difference {
     )
 }
 
-// The automaton has 11 nodes, which are 95 words, in an array of 240; one word less is refused
+// The automaton has 11 nodes, which are 175 words, in an array of 240; one word less is refused
 // under 10.
 fn expect_nodes(set: &[u32]) -> Difference {
     let mut automaton = [0u32; 240];
     let mut short = [0u32; 239];
-    let nodes = expect::built(finder::build_automaton(set, &mut automaton), 0, 11, 95);
+    let nodes = expect::built(finder::build_automaton(set, &mut automaton), 0, 11, 175);
     difference::first(
         nodes,
         expect::built(finder::build_automaton(set, &mut short), 10, 0, 0),

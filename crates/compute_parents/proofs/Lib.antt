@@ -3,4 +3,3 @@ pub mod Links
 pub mod LeftPart
 pub mod Walk
 pub mod Steps
-pub mod WindowCheck

@@ -1,3 +1,2 @@
 -- The root of the crate's definitions.
-pub mod Passes
 pub mod Steps

@@ -1,9 +1,7 @@
-// Global parents in linear time, and the check of a window by them.
+// Global parents in linear time.
 ghost use Rattle.lists.specs.Prelude.{_≡_, true, _++_, _+_, _-_, _≤_, _<_, length, getD, drop, lastBelow};
 ghost use Rattle.realization.specs.Realization.{realizable};
 ghost use Rattle.global_parents.specs.GlobalParents.{globalParents};
-ghost use Rattle.global_parents.specs.Passes.{passesAt};
-ghost use Rattle.compute_parents.specs.Passes.{passesParents, ParentsArePlaces};
 ghost use Rattle.compute_parents.specs.Steps.{leftStart, isRootFrom, withPlace};
 
 // The place that place k leads to; k itself where its distance is 0.
@@ -79,34 +77,4 @@ pub fn global_parents(ds: &[u32], out: &mut [u32])
         add_place(ds, j, out);
         j += 1;
     }
-}
-
-// Whether the value at place i passes the comparison with the value at its parent g.
-fn passes_at(window: &[i32], g: usize, i: usize) -> bool
-    requires { ⌜ (g < length (now window)) × (i < length (now window)) ⌝ }
-    ensures { λ r. ⌜ r ≡ passesAt (now (window .entry)) g i ⌝ }
-{
-    if g <= i {
-        window[g] <= window[i]
-    } else {
-        window[g] < window[i]
-    }
-}
-
-// Whether every value of the window passes the comparison with its parent; stops at the first that
-// does not.
-pub fn passes(parents: &[u32], window: &[i32]) -> bool
-    requires { ⌜ (length (now parents) ≡ length (now window)) × ParentsArePlaces (now parents) ⌝ }
-    ensures { λ r. ⌜ r ≡ passesParents (now (parents .entry)) (now (window .entry)) ⌝ }
-{
-    let n = parents.len();
-    let mut i = 0;
-    while i < n {
-        let g = casts::wide(parents[i]);
-        if !passes_at(window, g, i) {
-            return false;
-        }
-        i += 1;
-    }
-    true
 }

@@ -164,10 +164,7 @@ way-end ds j t h = rw add-one (go (decLt j t))
         let q : suc j - t ≡ 1 = omega arith in
         eq-eqb j t (omega arith) ∙ sym (rw q (one-open (getD ds j 0) (openDistances ds j)))
 
--- ---- one distance: 0, or too far, or looked for among the open places
-
-pub leads-none : (d e : ℕ) (os : List ℕ) → d ≡ e → d ≡ 0 → true ≡ leads e os
-leads-none d e os q z = rw (← q, z) refl
+-- ---- one distance: too far, or looked for among the open places
 
 pub leads-out : (ds : List ℕ) (i d e : ℕ) → d ≡ e → i < d → false ≡ leads e (openDistances ds i)
 leads-out ds i d e q h = rw (← q) (go (leads d (openDistances ds i)) refl)

@@ -1,10 +1,11 @@
 // Which lists of parent distances some values have, and the least values that have one, in linear
 // time.
 ghost use lib.IntN.{_+ℤ_};
-ghost use Rattle.lists.specs.Prelude.{_≡_, true, _++_, ℕ, _-_, _≤_, _<_, eqb, pos, _≤ℤ_, length, getD, drop, any};
+ghost use Rattle.lists.specs.Prelude.{_≡_, true, _&&_, List, _++_, ℕ, _-_, _≤_, _<_, eqb, leb, ltb, pos, _≤ℤ_, length, getD, drop, any};
+ghost use Rattle.bit_sets.specs.BitSets.{bitAt};
 ghost use Rattle.realization.specs.Realization.{realizable, leastRealization};
-ghost use Rattle.realization.specs.Walk.{leads};
-ghost use Rattle.compute_realization.specs.OpenDistances.{openDistances, Led};
+ghost use Rattle.realization.specs.Walk.{leads, opened};
+ghost use Rattle.compute_realization.specs.OpenDistances.{openDistances, Led, OpenBits};
 ghost use Rattle.compute_realization.specs.NextLower.{IsNext};
 
 // Whether the place target is open at i: whether the way of links from i - 1 down comes by it.
@@ -23,14 +24,15 @@ fn is_open(ds: &[u32], i: usize, target: usize) -> bool
     j == target
 }
 
-// Whether the distance at i leads to an open place, or is 0.
-fn leads_back(ds: &[u32], i: usize) -> bool
-    requires { ⌜ (i < length (now ds)) × Led (now ds) i ⌝ }
+// Whether the distance at i leads to an open place, or is 0. near holds the distances below 64 that
+// do.
+fn leads_back(ds: &[u32], i: usize, near: u64) -> bool
+    requires { ⌜ (i < length (now ds)) × Led (now ds) i × OpenBits near (openDistances (now ds) i) ⌝ }
     ensures { λ r. ⌜ r ≡ leads (getD (now (ds .entry)) i 0) (openDistances (now (ds .entry)) i) ⌝ }
 {
     let d = casts::wide(ds[i]);
-    if d == 0 {
-        return true;
+    if d < 64 {
+        return bit_sets::has(near, d);
     }
     if d > i {
         return false;
@@ -38,16 +40,37 @@ fn leads_back(ds: &[u32], i: usize) -> bool
     is_open(ds, i, i - d)
 }
 
+// The distances that are not nearer than d; none where d is 0, which shuts every place.
+fn not_nearer(d: usize) -> u64
+    requires { ⌜ d < 64 ⌝ }
+    ensures { λ r. ⌜ ((j : ℕ) → j < 64 → bitAt r j ≡ (ltb 0 d && leb d j)) ⌝ }
+{
+    (18446744073709551615u64 << ((d + 63) % 64)) << 1
+}
+
+// The distances below 64 that are in order one place on, after a distance d: 0 and 1, and one more
+// than each that is open and not nearer than d.
+fn near_after(near: u64, d: usize) -> u64
+    ensures { λ r. ⌜ ((os : List ℕ) → OpenBits near os → OpenBits r (opened d os)) ⌝ }
+{
+    if d >= 64 {
+        return 3;
+    }
+    (bit_sets::common(near, not_nearer(d)) << 1) | 3
+}
+
 // Whether some values have these parent distances.
 pub fn is_realizable(ds: &[u32]) -> bool
     ensures { λ r. ⌜ r ≡ realizable (now (ds .entry)) ⌝ }
 {
     let n = ds.len();
+    let mut near = 1u64;
     let mut i = 0;
     while i < n {
-        if !leads_back(ds, i) {
+        if !leads_back(ds, i, near) {
             return false;
         }
+        near = near_after(near, casts::wide(ds[i]));
         i += 1;
     }
     true

@@ -1,16 +1,17 @@
 -- THE WALK OF A STEP along the failure links, node by node: what is left of the step is the step
 -- from the present node, and each link costs one attempt.
-use Rattle.lists.proofs.Prelude.{_≡_, _∙_, ap, sym, refl, Bool, true, false, cond, List, [], _∷_, _++_, ℕ, suc, _+_, _≤_, _<_, T, length, arith, le-refl}
-use Rattle.lists.proofs.Prelude.{le-leb, lt-leb}
+use Rattle.lists.proofs.Prelude.{_≡_, _∙_, ap, sym, refl, Bool, true, false, cond, List, [], _∷_, _++_, ℕ, suc, _+_, _/_, _%_, _≤_, _<_, T, length, arith}
+use Rattle.lists.proofs.Prelude.{le-refl}
 use Rattle.lists.proofs.Tests.{T-true}
 use Rattle.lists.proofs.Parts.{length-snoc}
 use Rattle.cartesian.specs.Cartesian.{cut}
 use Rattle.pattern_set.specs.PatternSet.{PatternSet, goodSet}
 use Rattle.matching.specs.Matching.{isHead, failure}
-use Rattle.automaton_model.specs.Automaton.{nodes, headOf, nodeOf, firstChild, children, advance}
+use Rattle.automaton_model.specs.Automaton.{nodes, headOf, nodeOf, firstChild, children, advance, entryOf}
 use Rattle.automaton_model.proofs.Nodes.{head-node, node-head, node-root, head-length, failure-head, failure-shorter, failure-smaller}
 use Rattle.automaton_model.proofs.Children.{children-rise}
 use Rattle.automaton_model.proofs.Advance.{missing-longer, advance-there, advance-missing, advance-bounded}
+use Rattle.automaton_model.proofs.Steps.{cut-within, cut-outside, entry-parts, entry-cut}
 use Rattle.automaton_lookup.specs.Made.{childOf}
 use Rattle.failure_walk.specs.Reached.{Reached}
 
@@ -19,10 +20,10 @@ abbrev pub labelFor : PatternSet → ℕ → ℕ → ℕ
 labelFor ps n d = cut (length (headOf ps n)) d
 
 pub cut-kept : (n m d : ℕ) → m ≡ n → d ≤ m → d ≡ cut n d
-cut-kept n m d e h = let l : d ≤ n = omega arith in simp (le-leb d n l)
+cut-kept n m d e h = sym (cut-within n d (omega arith))
 
 pub cut-above : (n m d : ℕ) → m ≡ n → m < d → 0 ≡ cut n d
-cut-above n m d e h = let l : n < d = omega arith in simp (lt-leb d n l)
+cut-above n m d e h = sym (cut-outside n d (omega arith))
 
 -- the step of distance d from node n is, after so many attempts that missed, that from node `at`
 pub record Walk (ps : PatternSet) (n d at missed : ℕ) : Type 0 where
@@ -99,6 +100,17 @@ module _ (ps : PatternSet) (g : T (goodSet ps)) (z : 0 < length ps) where
         record {
           node = e ∙ t .1 ∙ ap (nodeOf ps) (sym (w .node ∙ ap (λ (x : List ℕ × ℕ). x .0) a));
           attempts = omega (arith, w .attempts);
+        }
+
+    -- the row has the rest of the way
+    pub walk-row : (at missed e : ℕ) → Walk ps n d at missed → (x : ℕ) → x ≡ labelFor ps at d → e ≡ entryOf ps at x
+        → Reached ps n d (e % 65536) (missed + e / 65536)
+    walk-row at missed e w x l q =
+        let r : e ≡ entryOf ps at d = q ∙ ap (entryOf ps at) l ∙ sym (entry-cut ps g z at d) in
+        let p = entry-parts ps g z at d in
+        record {
+          node = ap (λ (v : ℕ). v % 65536) r ∙ p .0 ∙ ap (nodeOf ps) (sym (w .node));
+          attempts = ap (λ (v : ℕ). missed + v / 65536) r ∙ (omega (arith, p .1, w .attempts));
         }
 
   -- ---- what is reached

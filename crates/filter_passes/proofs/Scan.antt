@@ -1,5 +1,5 @@
--- A PASS OVER THE TEXT, PLACE BY PLACE: the two fingerprints, the place where the samples begin and
--- the count that every pass keeps. The patterns that a look with the set fingerprint finds at a
+-- A PASS OVER THE TEXT, PLACE BY PLACE: the fingerprint, the place where the samples begin and the
+-- count that every pass keeps. The patterns that a look with the set fingerprint finds at a
 -- place are its candidates.
 use Rattle.lists.proofs.Prelude.{_≡_, _∙_, ap, sym, refl, subst, true, false, List, ℕ, suc, _+_, _-_, _*_, _%_, _^_, _≤_, _<_, ℤ, pos, T, length, getD, take}
 use Rattle.lists.proofs.Prelude.{zero-mod, add-one, arith}
@@ -16,12 +16,10 @@ use Rattle.filter_passes.specs.Passes.{candidatesBelow}
 use Rattle.filter_passes.proofs.Places.{candidates-next, candidates-none, candidates-all, gap-candidates}
 
 -- where a pass stands that has p places behind it
-pub record Scan (ps : PatternSet) (text : List ℤ) (b p fingerprint own begin count : ℕ) : Type 0 where
+pub record Scan (ps : PatternSet) (text : List ℤ) (p own begin count : ℕ) : Type 0 where
   -- no more places than the text has
   pub inside : p ≤ length text
-  -- the fingerprint of the last b values up to place p, where the text has it
-  pub ofSet : p < length text → fingerprint ≡ textFingerprint b (take (suc p) text)
-  -- the fingerprint of the last 17 values up to it
+  -- the fingerprint of the last 17 values up to place p, where the text has it
   pub ofOwn : p < length text → own ≡ textFingerprint 17 (take (suc p) text)
   -- where the samples before p begin
   pub since : Since text p begin
@@ -35,10 +33,9 @@ first : (m : ℕ) (text : List ℤ) → 1 ≤ m → 0 < length text → 0 ≡ te
 first m text h l =
     fingerprint-rolled m text 0 0 0 0 h l (fingerprint-none m text) (newBit-first text 0 refl) (sym (zero-mod (2 ^ (m - 1))))
 
-pub scan-start : (ps : PatternSet) (text : List ℤ) (b : ℕ) → 1 ≤ b → Scan ps text b 0 0 0 0 0
-scan-start ps text b h = record {
+pub scan-start : (ps : PatternSet) (text : List ℤ) → Scan ps text 0 0 0 0
+scan-start ps text = record {
   inside = omega arith;
-  ofSet = λ l. first b text h l;
   ofOwn = λ l. first 17 text (omega arith) l;
   since = since-start text;
   counted = candidates-none ps text;
@@ -52,23 +49,21 @@ scan-roll m text p fingerprint bit next h l here =
     fingerprint-rolled m text (p + 1) fingerprint bit next h l (here ∙ ap (λ (n : ℕ). textFingerprint m (take n text)) (sym (add-one p)))
 
 -- all candidates are counted
-pub scan-end : (ps : PatternSet) (text : List ℤ) (b p fingerprint own begin count : ℕ) → Scan ps text b p fingerprint own begin count → length text ≤ p
+pub scan-end : (ps : PatternSet) (text : List ℤ) (p own begin count : ℕ) → Scan ps text p own begin count → length text ≤ p
     → count ≡ candidates ps text
-scan-end ps text b p fingerprint own begin count s h =
+scan-end ps text p own begin count s h =
     let e : p ≡ length text = omega (arith, s .inside) in
     s .counted ∙ candidates-all ps text p e
 
-module _ (ps : PatternSet) (text : List ℤ) (b p fingerprint own begin count fingerprint' own' begin' count' : ℕ) (good : T (goodSet ps))
-    (lt : p < length text) (before : Scan ps text b p fingerprint own begin count)
-    (setNext : p + 1 < length text → fingerprint' ≡ textFingerprint b (take (suc (p + 1)) text))
+module _ (ps : PatternSet) (text : List ℤ) (p own begin count own' begin' count' : ℕ) (good : T (goodSet ps))
+    (lt : p < length text) (before : Scan ps text p own begin count)
     (ownNext : p + 1 < length text → own' ≡ textFingerprint 17 (take (suc (p + 1)) text)) where
   -- one place on
   on : Since text (suc p) begin' → (here : ℕ) → SetOf ps (isCandidate (shortest 17 ps) (take (suc p) text)) here → length (bits here) ≤ 64
-      → count' ≡ count + length (bits here) → Scan ps text b (p + 1) fingerprint' own' begin' count'
+      → count' ≡ count + length (bits here) → Scan ps text (p + 1) own' begin' count'
   on since here found most e =
       let one = sym (add-one p) in record {
         inside = omega (arith, lt);
-        ofSet = setNext;
         ofOwn = ownNext;
         since = subst (λ (n : ℕ). Since text n begin') one since;
         counted =
@@ -83,7 +78,7 @@ module _ (ps : PatternSet) (text : List ℤ) (b p fingerprint own begin count fi
   none = ap length bits-zero
 
   -- behind a gap: it has no candidates
-  pub scan-gap : isGap (getD text p (pos 0)) ≡ true → begin' ≡ p + 1 → count' ≡ count → Scan ps text b (p + 1) fingerprint' own' begin' count'
+  pub scan-gap : isGap (getD text p (pos 0)) ≡ true → begin' ≡ p + 1 → count' ≡ count → Scan ps text (p + 1) own' begin' count'
   scan-gap gap k e =
       on (since-gap text p begin' lt gap (k ∙ add-one p)) 0 (gap-candidates ps text p good lt gap) (omega (arith, none)) (omega (arith, e, none))
 
@@ -93,9 +88,9 @@ module _ (ps : PatternSet) (text : List ℤ) (b p fingerprint own begin count fi
 
     -- behind a sample, with the candidates of the place
     pub scan-next : (here : ℕ) → SetOf ps (isCandidate (shortest 17 ps) (take (suc p) text)) here → here < 2 ^ 64 → count' ≡ count + length (bits here)
-        → Scan ps text b (p + 1) fingerprint' own' begin' count'
+        → Scan ps text (p + 1) own' begin' count'
     scan-next here found h e = on same here found (size-le here h) e
 
     -- behind a sample, where the place has none
-    pub scan-pass : SetOf ps (isCandidate (shortest 17 ps) (take (suc p) text)) 0 → count' ≡ count → Scan ps text b (p + 1) fingerprint' own' begin' count'
+    pub scan-pass : SetOf ps (isCandidate (shortest 17 ps) (take (suc p) text)) 0 → count' ≡ count → Scan ps text (p + 1) own' begin' count'
     scan-pass found e = on same 0 found (omega (arith, none)) (omega (arith, e, none))

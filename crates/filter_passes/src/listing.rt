@@ -34,11 +34,12 @@ fn count_block(
     ownhigh: &[u64; 256],
     fits: &[u64; 256],
     numbers: &[u32; 64],
-    parents: &[u32],
+    equal: &[u64; 64],
+    checks: &[u32],
 ) -> Counted
     requires { ⌜ IsSet (now set) ⌝ }
     requires { ⌜ (first ≤ end) × (end ≤ length (now text)) × (length (now text) ≤ 1048576) × Since (now text) first begin ⌝ }
-    requires { ⌜ HitTables (patternsOf (now set)) (now ownlow) (now ownhigh) (now fits) (now numbers) (now parents) ⌝ }
+    requires { ⌜ HitTables (patternsOf (now set)) (now ownlow) (now ownhigh) (now fits) (now numbers) (now equal) (now checks) ⌝ }
     ensures { λ r. ⌜ r .hits ≡ length (hitsFrom (patternsOf (now (set .entry))) (now (text .entry)) first (end - first)) ⌝ }
     ensures { λ r. ⌜ Since (now (text .entry)) end (r .begin) ⌝ }
 {
@@ -59,7 +60,8 @@ fn count_block(
             ownhigh,
             fits,
             numbers,
-            parents,
+            equal,
+            checks,
         );
         count += bit_sets::size(found);
         p += 1;
@@ -80,12 +82,13 @@ pub fn count_hits(
     ownhigh: &[u64; 256],
     fits: &[u64; 256],
     numbers: &[u32; 64],
-    parents: &[u32],
+    equal: &[u64; 64],
+    checks: &[u32],
 ) -> usize
     requires { ⌜ IsSet (now set) ⌝ }
     requires { ⌜ length (now text) ≤ 1048576 ⌝ }
     requires { ⌜ HitsMarked (patternsOf (now set)) (now text) (now marks) (length (now text)) ⌝ }
-    requires { ⌜ HitTables (patternsOf (now set)) (now ownlow) (now ownhigh) (now fits) (now numbers) (now parents) ⌝ }
+    requires { ⌜ HitTables (patternsOf (now set)) (now ownlow) (now ownhigh) (now fits) (now numbers) (now equal) (now checks) ⌝ }
     ensures { λ r. ⌜ r ≡ length (hits (patternsOf (now (set .entry))) (now (text .entry))) ⌝ }
 {
     let n = text.len();
@@ -107,7 +110,8 @@ pub fn count_hits(
                 ownhigh,
                 fits,
                 numbers,
-                parents,
+                equal,
+                checks,
             );
             count += counted.hits;
             begin = counted.begin;
@@ -162,13 +166,14 @@ fn write_block(
     ownhigh: &[u64; 256],
     fits: &[u64; 256],
     numbers: &[u32; 64],
-    parents: &[u32],
+    equal: &[u64; 64],
+    checks: &[u32],
     out: &mut [u32],
     at: usize,
 ) -> Listed
     requires { ⌜ IsSet (now set) ⌝ }
     requires { ⌜ (first ≤ end) × (end ≤ length (now text)) × (length (now text) ≤ 1048576) × Since (now text) first begin ⌝ }
-    requires { ⌜ HitTables (patternsOf (now set)) (now ownlow) (now ownhigh) (now fits) (now numbers) (now parents) ⌝ }
+    requires { ⌜ HitTables (patternsOf (now set)) (now ownlow) (now ownhigh) (now fits) (now numbers) (now equal) (now checks) ⌝ }
     requires { ⌜ at + 2 * length (hitsFrom (patternsOf (now set)) (now text) first (end - first)) ≤ length (now out) ⌝ }
     ensures { λ r. ⌜ r .to ≡ at + 2 * length (hitsFrom (patternsOf (now (set .entry))) (now (text .entry)) first (end - first)) ⌝ }
     ensures { λ _. ⌜ now (out .exit) ≡ sets (now (out .entry)) at
@@ -192,7 +197,8 @@ fn write_block(
             ownhigh,
             fits,
             numbers,
-            parents,
+            equal,
+            checks,
         );
         to = write_place(numbers, found, p, out, to);
         p += 1;
@@ -211,13 +217,14 @@ pub fn write_hits(
     ownhigh: &[u64; 256],
     fits: &[u64; 256],
     numbers: &[u32; 64],
-    parents: &[u32],
+    equal: &[u64; 64],
+    checks: &[u32],
     out: &mut [u32],
 ) -> usize
     requires { ⌜ IsSet (now set) ⌝ }
     requires { ⌜ length (now text) ≤ 1048576 ⌝ }
     requires { ⌜ HitsMarked (patternsOf (now set)) (now text) (now marks) (length (now text)) ⌝ }
-    requires { ⌜ HitTables (patternsOf (now set)) (now ownlow) (now ownhigh) (now fits) (now numbers) (now parents) ⌝ }
+    requires { ⌜ HitTables (patternsOf (now set)) (now ownlow) (now ownhigh) (now fits) (now numbers) (now equal) (now checks) ⌝ }
     requires { ⌜ 2 * length (hits (patternsOf (now set)) (now text)) ≤ length (now out) ⌝ }
     ensures { λ r. ⌜ r ≡ 2 * length (hits (patternsOf (now (set .entry))) (now (text .entry))) ⌝ }
     ensures { λ _. ⌜ now (out .exit) ≡ sets (now (out .entry)) 0 (hitWords (hits (patternsOf (now (set .entry))) (now (text .entry)))) ⌝ }
@@ -241,7 +248,8 @@ pub fn write_hits(
                 ownhigh,
                 fits,
                 numbers,
-                parents,
+                equal,
+                checks,
                 out,
                 to,
             );

@@ -13,11 +13,11 @@ pub struct Counts {
     pub candidates: usize,
 }
 
-// Counts the candidates of the text and writes its hits, for which there is room. Two fingerprints
-// are those of place p: that of the last b values, and own, that of the last 17. Of the first value
-// alone they are 0; at the end of a turn both are rolled on to the next place, where there is one.
-// begin is kept, where the samples behind the last gap begin. At a gap no window fits, so nothing
-// is looked up.
+// Counts the candidates of the text and writes its hits, for which there is room. own is the
+// fingerprint of the last 17 values up to place p; its lowest bits are the set fingerprint. Of the
+// first value alone it is 0; at the end of a turn it is rolled on to the next place, where there is
+// one. begin is kept, where the samples behind the last gap begin. At a gap no window fits, so
+// nothing is looked up.
 fn search_places(
     set: &[u32],
     text: &[i32],
@@ -27,20 +27,20 @@ fn search_places(
     ownhigh: &[u64; 256],
     fits: &[u64; 256],
     numbers: &[u32; 64],
-    parents: &[u32],
+    equal: &[u64; 64],
+    checks: &[u32],
     out: &mut [u32],
 ) -> Counts
     requires { ⌜ IsSet (now set) ⌝ }
     requires { ⌜ (length (now text) ≤ 1048576) × (2 * length (hits (patternsOf (now set)) (now text)) ≤ length (now out)) ⌝ }
     requires { ⌜ SetTables (patternsOf (now set)) (now setlow) (now sethigh) (now fits) ⌝ }
-    requires { ⌜ HitTables (patternsOf (now set)) (now ownlow) (now ownhigh) (now fits) (now numbers) (now parents) ⌝ }
+    requires { ⌜ HitTables (patternsOf (now set)) (now ownlow) (now ownhigh) (now fits) (now numbers) (now equal) (now checks) ⌝ }
     ensures { λ r. ⌜ r .hits ≡ length (hits (patternsOf (now (set .entry))) (now (text .entry))) ⌝ }
     ensures { λ r. ⌜ r .candidates ≡ candidates (patternsOf (now (set .entry))) (now (text .entry)) ⌝ }
     ensures { λ _. ⌜ now (out .exit) ≡ sets (now (out .entry)) 0 (hitWords (hits (patternsOf (now (set .entry))) (now (text .entry)))) ⌝ }
 {
     let b = filter_tables::shortest_length(set);
     let n = text.len();
-    let mut fingerprint = 0;
     let mut own = 0;
     let mut begin = 0;
     let mut count = 0;
@@ -50,21 +50,22 @@ fn search_places(
         if gaps::is_gap(text, p) {
             begin = p + 1;
         } else {
+            let fingerprint = filter_windows::set_fingerprint(own, b);
             let alike = filter_windows::by_set_fingerprint(setlow, sethigh, fingerprint);
             if alike != 0 {
                 let here = filter_windows::fitting(alike, fits, p + 1 - begin);
                 count += bit_sets::size(here);
-                let found = filter_windows::hits_at(
+                let found = filter_windows::hits_among(
                     set,
                     text,
                     p,
                     own,
-                    begin,
+                    here,
                     ownlow,
                     ownhigh,
-                    fits,
                     numbers,
-                    parents,
+                    equal,
+                    checks,
                 );
                 to = write_place(numbers, found, p, out, to);
             }
@@ -74,7 +75,6 @@ fn search_places(
             break;
         }
         let bit = filter_windows::new_bit(text, p);
-        fingerprint = filter_windows::roll(fingerprint, bit, b);
         own = filter_windows::roll(own, bit, 17);
     }
     Counts {
@@ -91,12 +91,13 @@ pub fn one_pass(
     ownhigh: &[u64; 256],
     fits: &[u64; 256],
     numbers: &[u32; 64],
-    parents: &[u32],
+    equal: &[u64; 64],
+    checks: &[u32],
     out: &mut [u32],
 ) -> Counts
     requires { ⌜ IsSet (now set) ⌝ }
     requires { ⌜ (length (now text) ≤ 1048576) × (2 * length (hits (patternsOf (now set)) (now text)) ≤ length (now out)) ⌝ }
-    requires { ⌜ HitTables (patternsOf (now set)) (now ownlow) (now ownhigh) (now fits) (now numbers) (now parents) ⌝ }
+    requires { ⌜ HitTables (patternsOf (now set)) (now ownlow) (now ownhigh) (now fits) (now numbers) (now equal) (now checks) ⌝ }
     ensures { λ r. ⌜ r .hits ≡ length (hits (patternsOf (now (set .entry))) (now (text .entry))) ⌝ }
     ensures { λ r. ⌜ r .candidates ≡ candidates (patternsOf (now (set .entry))) (now (text .entry)) ⌝ }
     ensures { λ _. ⌜ now (out .exit) ≡ sets (now (out .entry)) 0 (hitWords (hits (patternsOf (now (set .entry))) (now (text .entry)))) ⌝ }
@@ -114,7 +115,8 @@ pub fn one_pass(
         ownhigh,
         fits,
         numbers,
-        parents,
+        equal,
+        checks,
         out,
     )
 }

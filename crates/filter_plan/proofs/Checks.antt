@@ -96,6 +96,13 @@ likely-fits text p t =
     let s = and-split (leb (length p) (length text)) (not (holdsGap w)) f in
     (leb→le (length p) (length text) (s .0), not-passed (holdsGap w) (s .1))
 
+-- the text at its end has the own fingerprint of a likely pattern
+pub likely-fingerprint : (text : List ℤ) (p : List ℕ) → T (isLikely text p) → textFingerprint (ownLength p) text ≡ patternFingerprint (ownLength p) p
+unfolding isLikely
+likely-fingerprint text p t =
+    eqb→eq (textFingerprint (ownLength p) text) (patternFingerprint (ownLength p) p)
+    (and-split (fits text p) (eqb (textFingerprint (ownLength p) text) (patternFingerprint (ownLength p) p)) t .1)
+
 -- what is likely is a candidate: a longer fingerprint that is equal has equal lowest bits
 pub likely-candidate : (b : ℕ) (text : List ℤ) (p : List ℕ) → 1 ≤ b → b ≤ ownLength p → T (isLikely text p) → T (isCandidate b text p)
 unfolding isCandidate isLikely

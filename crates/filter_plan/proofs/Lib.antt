@@ -3,3 +3,4 @@ pub mod HitOrder
 pub mod Fingerprints
 pub mod Checks
 pub mod Candidates
+pub mod Decided

@@ -28,18 +28,29 @@ fn list_fits(
     ownhigh: &[u64; 256],
     fits: &[u64; 256],
     numbers: &[u32; 64],
-    parents: &[u32],
+    equal: &[u64; 64],
+    checks: &[u32],
 ) -> bool
     requires { ⌜ IsSet (now set) ⌝ }
     requires { ⌜ (length (now text) ≤ 1048576) × (count ≡ candidates (patternsOf (now set)) (now text)) × (count ≤ 67108864) ⌝ }
     requires { ⌜ HitsMarked (patternsOf (now set)) (now text) (now marks) (length (now text)) ⌝ }
-    requires { ⌜ HitTables (patternsOf (now set)) (now ownlow) (now ownhigh) (now fits) (now numbers) (now parents) ⌝ }
+    requires { ⌜ HitTables (patternsOf (now set)) (now ownlow) (now ownhigh) (now fits) (now numbers) (now equal) (now checks) ⌝ }
     ensures { λ r. ⌜ r ≡ leb (2 * length (hits (patternsOf (now (set .entry))) (now (text .entry)))) room ⌝ }
 {
     if 2 * count <= room {
         return true;
     }
-    let found = listing::count_hits(set, text, marks, ownlow, ownhigh, fits, numbers, parents);
+    let found = listing::count_hits(
+        set,
+        text,
+        marks,
+        ownlow,
+        ownhigh,
+        fits,
+        numbers,
+        equal,
+        checks,
+    );
     2 * found <= room
 }
 
@@ -53,13 +64,14 @@ fn list_hits(
     ownhigh: &[u64; 256],
     fits: &[u64; 256],
     numbers: &[u32; 64],
-    parents: &[u32],
+    equal: &[u64; 64],
+    checks: &[u32],
     out: &mut [u32],
 ) -> Filtered
     requires { ⌜ IsSet (now set) ⌝ }
     requires { ⌜ (length (now text) ≤ 1048576) × (count ≡ candidates (patternsOf (now set)) (now text)) × (count ≤ 67108864) ⌝ }
     requires { ⌜ HitsMarked (patternsOf (now set)) (now text) (now marks) (length (now text)) ⌝ }
-    requires { ⌜ HitTables (patternsOf (now set)) (now ownlow) (now ownhigh) (now fits) (now numbers) (now parents) ⌝ }
+    requires { ⌜ HitTables (patternsOf (now set)) (now ownlow) (now ownhigh) (now fits) (now numbers) (now equal) (now checks) ⌝ }
     ensures { λ r. ⌜ toldFiltered r ≡ told (0, 0) (foundEntry (patternsOf (now (set .entry))) (now (text .entry)) (now (out .entry))) ⌝ }
     ensures { λ _. ⌜ now (out .exit) ≡ after (foundEntry (patternsOf (now (set .entry))) (now (text .entry)) (now (out .entry))) (now (out .entry)) ⌝ }
 {
@@ -74,7 +86,8 @@ fn list_hits(
         ownhigh,
         fits,
         numbers,
-        parents,
+        equal,
+        checks,
     ) {
         return Filtered::Refused(Refusal::ListTooLong);
     }
@@ -86,7 +99,8 @@ fn list_hits(
         ownhigh,
         fits,
         numbers,
-        parents,
+        equal,
+        checks,
         out,
     );
     Filtered::Found(words / 2, count)
@@ -101,12 +115,13 @@ fn two_passes(
     ownhigh: &[u64; 256],
     fits: &[u64; 256],
     numbers: &[u32; 64],
-    parents: &[u32],
+    equal: &[u64; 64],
+    checks: &[u32],
     out: &mut [u32],
 ) -> Filtered
     requires { ⌜ IsSet (now set) ⌝ }
     requires { ⌜ length (now text) ≤ 1048576 ⌝ }
-    requires { ⌜ HitTables (patternsOf (now set)) (now ownlow) (now ownhigh) (now fits) (now numbers) (now parents) ⌝ }
+    requires { ⌜ HitTables (patternsOf (now set)) (now ownlow) (now ownhigh) (now fits) (now numbers) (now equal) (now checks) ⌝ }
     ensures { λ r. ⌜ toldFiltered r ≡ told (0, 0) (foundEntry (patternsOf (now (set .entry))) (now (text .entry)) (now (out .entry))) ⌝ }
     ensures { λ _. ⌜ now (out .exit) ≡ after (foundEntry (patternsOf (now (set .entry))) (now (text .entry)) (now (out .entry))) (now (out .entry)) ⌝ }
 {
@@ -118,7 +133,8 @@ fn two_passes(
         ownlow,
         ownhigh,
         fits,
-        parents,
+        equal,
+        checks,
         &mut marks,
     );
     list_hits(
@@ -130,7 +146,8 @@ fn two_passes(
         ownhigh,
         fits,
         numbers,
-        parents,
+        equal,
+        checks,
         out,
     )
 }
@@ -153,22 +170,43 @@ fn search_by(
     ownhigh: &[u64; 256],
     fits: &[u64; 256],
     numbers: &[u32; 64],
-    parents: &[u32],
+    equal: &[u64; 64],
+    checks: &[u32],
     out: &mut [u32],
 ) -> Filtered
     requires { ⌜ IsSet (now set) ⌝ }
     requires { ⌜ length (now text) ≤ 1048576 ⌝ }
-    requires { ⌜ HitTables (patternsOf (now set)) (now ownlow) (now ownhigh) (now fits) (now numbers) (now parents) ⌝ }
+    requires { ⌜ HitTables (patternsOf (now set)) (now ownlow) (now ownhigh) (now fits) (now numbers) (now equal) (now checks) ⌝ }
     ensures { λ r. ⌜ toldFiltered r ≡ told (0, 0) (foundEntry (patternsOf (now (set .entry))) (now (text .entry)) (now (out .entry))) ⌝ }
     ensures { λ _. ⌜ now (out .exit) ≡ after (foundEntry (patternsOf (now (set .entry))) (now (text .entry)) (now (out .entry))) (now (out .entry)) ⌝ }
 {
     let n = text.len();
     let room = out.len();
     if takes_all(set, n, room) {
-        let counts = single::one_pass(set, text, ownlow, ownhigh, fits, numbers, parents, out);
+        let counts = single::one_pass(
+            set,
+            text,
+            ownlow,
+            ownhigh,
+            fits,
+            numbers,
+            equal,
+            checks,
+            out,
+        );
         Filtered::Found(counts.hits, counts.candidates)
     } else {
-        two_passes(set, text, ownlow, ownhigh, fits, numbers, parents, out)
+        two_passes(
+            set,
+            text,
+            ownlow,
+            ownhigh,
+            fits,
+            numbers,
+            equal,
+            checks,
+            out,
+        )
     }
 }
 
@@ -181,15 +219,27 @@ fn search(set: &[u32], text: &[i32], out: &mut [u32]) -> Filtered
     ensures { λ _. ⌜ now (out .exit) ≡ after (foundEntry (patternsOf (now (set .entry))) (now (text .entry)) (now (out .entry))) (now (out .entry)) ⌝ }
 {
     let mut numbers = [0u32; 64];
-    let mut parents = [0u32; 4096];
+    let mut equal = [0u64; 64];
+    let mut checks = [0u32; 4096];
     let mut ownlow = [0u64; 256];
     let mut ownhigh = [0u64; 256];
     let mut fits = [0u64; 256];
     filter_tables::fill_numbers(set, &mut numbers);
-    filter_tables::fill_parents(set, &mut parents);
+    filter_checks::equal::fill_equal(set, &numbers, &mut equal);
+    filter_checks::comparisons::fill_comparisons(set, &mut checks);
     filter_tables::fill_own_tables(set, &numbers, &mut ownlow, &mut ownhigh);
     filter_tables::fill_fits(set, &numbers, &mut fits);
-    search_by(set, text, &ownlow, &ownhigh, &fits, &numbers, &parents, out)
+    search_by(
+        set,
+        text,
+        &ownlow,
+        &ownhigh,
+        &fits,
+        &numbers,
+        &equal,
+        &checks,
+        out,
+    )
 }
 
 // The rises over the first n hits of the list in the hit array.

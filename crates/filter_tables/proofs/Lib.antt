@@ -2,5 +2,6 @@
 pub mod Ranks
 pub mod Fingerprints
 pub mod Sets
-pub mod Parents
+pub mod Repeats
+pub mod Unions
 pub mod Lookup

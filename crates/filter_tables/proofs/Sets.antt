@@ -1,8 +1,7 @@
 -- FILLING A TABLE OF SETS: a rank added at the places that pass its pattern's test makes a table
--- that holds the ranks below r one that holds those below r + 1; and adding a rank place by place
--- adds it at all places that pass.
-use Rattle.lists.proofs.Prelude.{_≡_, _∙_, ap, sym, refl, ap₂, Bool, true, false, _&&_, _||_, List, ℕ, suc, _+_, _-_, _≤_, _<_, eqb, leb, ltb, length, getD}
-use Rattle.lists.proofs.Prelude.{set, replicate, getD-replicate, getD-set-same, getD-set-other, decLt, arith, eq-eqb, ne-eqb, lt-leb, lt-ltb, le-ltb}
+-- that holds the ranks below r one that holds those below r + 1.
+use Rattle.lists.proofs.Prelude.{_≡_, _∙_, ap, sym, refl, ap₂, Bool, true, false, _&&_, _||_, List, ℕ, _+_, _<_, eqb, ltb, length, getD}
+use Rattle.lists.proofs.Prelude.{set, replicate, getD-replicate, getD-set-same, getD-set-other, decLt, arith, eq-eqb, ne-eqb, lt-ltb, le-ltb}
 use Rattle.lists.proofs.Tests.{and-false, and-true, or-false}
 use Rattle.bit_sets.specs.BitSets.{bitAt}
 use Rattle.bit_sets.proofs.Digits.{bitAt-none}
@@ -26,63 +25,6 @@ adds-set table v r w h f u k s l = go (decLt u v) (decLt v u)
     go (no a) (no b) =
         let e : u ≡ v = omega arith in
         rw (e, eq-eqb v v refl) (ap (λ (x : ℕ). bitAt x s) (getD-set-same table v w 0 h) ∙ f s l)
-
--- ---- place by place
-
-adds-ext : (t q : ℕ → Bool) (r : ℕ) (a b : List ℕ) → ((v : ℕ) → v < 256 → t v ≡ q v) → Adds t r a b → Adds q r a b
-adds-ext t q r a b f g v h s l = g v h s l ∙ ap (λ (x : Bool). (x && eqb s r) || bitAt (getD a v 0) s) (f v h)
-
--- no place passes
-pub adds-none : (test : ℕ → Bool) (r : ℕ) (a : List ℕ) → ((v : ℕ) → v < 256 → test v ≡ false) → Adds test r a a
-adds-none test r a f v h s l = rw (f v h) refl
-
-pub adds-start : (test : ℕ → Bool) (r : ℕ) (a : List ℕ) → Adds (λ u. ltb u 0 && test u) r a a
-adds-start test r a = adds-none (λ u. ltb u 0 && test u) r a (λ v h. rw (le-ltb v 0 (omega arith)) refl)
-
--- the places from n - 1 on: none below n - 1
-pub adds-from : (n r : ℕ) (a : List ℕ) → 1 ≤ n → Adds (λ u. ltb u (n - 1) && leb n (suc u)) r a a
-adds-from n r a k = adds-none (λ u. ltb u (n - 1) && leb n (suc u)) r a (λ v h. go v (decLt v (n - 1)))
-  where
-    go : (v : ℕ) → Dec (v < n - 1) → (ltb v (n - 1) && leb n (suc v)) ≡ false
-    go v (yes l) = rw (lt-leb n (suc v) (omega arith)) (and-false (ltb v (n - 1)))
-    go v (no f) = rw (le-ltb v (n - 1) (omega arith)) refl
-
-pub adds-step : (test : ℕ → Bool) (r v : ℕ) (a b c : List ℕ) → Adds (λ u. ltb u v && test u) r a b → Adds (eqb v) r b c → test v ≡ true
-    → Adds (λ u. ltb u (v + 1) && test u) r a c
-adds-step test r v a b c f g t =
-    adds-ext (λ u. eqb v u || (ltb u v && test u)) (λ u. ltb u (v + 1) && test u) r a c (λ u h. next u (decLt u v) (decLt v u))
-    (λ u h s l. g u h s l ∙ ap (λ (x : Bool). (eqb v u && eqb s r) || x) (f u h s l) ∙ join (eqb v u) (ltb u v && test u) (eqb s r) (bitAt (getD a u 0) s))
-  where
-    join : (x y e z : Bool) → ((x && e) || ((y && e) || z)) ≡ (((x || y) && e) || z)
-    join true true true z = refl
-    join true true false z = refl
-    join true false true z = refl
-    join true false false z = refl
-    join false true true z = refl
-    join false true false z = refl
-    join false false e z = refl
-
-    next : (u : ℕ) → Dec (u < v) → Dec (v < u) → (eqb v u || (ltb u v && test u)) ≡ (ltb u (v + 1) && test u)
-    next u (yes l) d =
-        rw (ne-eqb v u (λ e. let z : ⊥ = omega arith in z), lt-ltb u v l, lt-ltb u (v + 1) (omega arith)) refl
-    next u (no l) (yes k) =
-        rw (ne-eqb v u (λ e. let z : ⊥ = omega arith in z), le-ltb u v (omega arith), le-ltb u (v + 1) (omega arith)) refl
-    next u (no l) (no k) =
-        let e : u ≡ v = omega arith in
-        rw (e, eq-eqb v v refl, t, lt-ltb v (v + 1) (omega arith)) refl
-
--- place v does not pass
-pub adds-skip : (test : ℕ → Bool) (r v : ℕ) (a b : List ℕ) → Adds (λ u. ltb u v && test u) r a b → test v ≡ false → Adds (λ u. ltb u (v + 1) && test u) r a b
-adds-skip test r v a b f t =
-    adds-ext (λ u. ltb u v && test u) (λ u. ltb u (v + 1) && test u) r a b (λ u h. next u (decLt u v) (decLt v u)) f
-  where
-    next : (u : ℕ) → Dec (u < v) → Dec (v < u) → (ltb u v && test u) ≡ (ltb u (v + 1) && test u)
-    next u (yes l) d = rw (lt-ltb u v l, lt-ltb u (v + 1) (omega arith)) refl
-    next u (no l) (yes k) = rw (le-ltb u v (omega arith), le-ltb u (v + 1) (omega arith)) refl
-    next u (no l) (no k) = let e : u ≡ v = omega arith in rw (e, t) (and-false (ltb v v) ∙ sym (and-false (ltb v (v + 1))))
-
-pub adds-all : (test : ℕ → Bool) (r v : ℕ) (a b : List ℕ) → 256 ≤ v → Adds (λ u. ltb u v && test u) r a b → Adds test r a b
-adds-all test r v a b h f = adds-ext (λ u. ltb u v && test u) test r a b (λ u k. rw (lt-ltb u v (omega arith)) refl) f
 
 -- ---- rank by rank
 

@@ -1,9 +1,8 @@
 -- What the tables of a filter search hold. A set of patterns is a u64: bit r stands for the pattern
 -- of rank r in the order of hits.
-use Rattle.lists.specs.Prelude.{_≡_, Bool, _&&_, List, [], flatten, ℕ, suc, min, _-_, _/_, _%_, _^_, _<_, eqb, leb, ltb, length, getD, take, drop}
+use Rattle.lists.specs.Prelude.{_≡_, Bool, _&&_, List, [], ℕ, suc, min, _-_, _/_, _%_, _^_, _<_, eqb, leb, ltb, length, getD}
 use Rattle.bit_sets.specs.BitSets.{bitAt}
 use Rattle.pattern_set.specs.PatternSet.{PatternSet}
-use Rattle.global_parents.specs.GlobalParents.{globalParents}
 use Rattle.filter_plan.specs.Plan.{hitOrder, patternFingerprint, ownLength}
 
 -- the pattern of rank r
@@ -36,7 +35,3 @@ fitsAt v p = leb (length p) (suc v)
 -- the numbers of the patterns by rank
 abbrev pub Ranks : PatternSet → List ℕ → Type 0
 Ranks ps numbers = (r : ℕ) → r < length ps → getD numbers r 0 ≡ getD (hitOrder ps) r 0
-
--- the global parents of each pattern, where its distances lie among all distances
-abbrev pub Parents : PatternSet → List ℕ → Type 0
-Parents ps parents = (j : ℕ) → j < length ps → take (length (getD ps j [])) (drop (length (flatten (take j ps))) parents) ≡ globalParents (getD ps j [])

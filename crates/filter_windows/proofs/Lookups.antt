@@ -1,17 +1,20 @@
 -- WHAT A LOOK INTO THE TABLES FINDS at a place, for as many samples as there are behind the last
 -- gap: by the fingerprint of b values the candidates, by the fingerprint of 17 values the likely
 -- patterns.
-use Rattle.lists.proofs.Prelude.{_≡_, _∙_, ap, sym, refl, subst, Bool, _&&_, List, ℕ, suc, min, _-_, _≤_, _<_, ℤ, T, length, getD, take, arith, lt-ltb}
-use Rattle.lists.proofs.Tests.{and-false}
+use Rattle.lists.proofs.Prelude.{_≡_, _∙_, ap, sym, refl, subst, ap₂, Bool, true, false, _&&_, List, [], ℕ, suc, min, _-_, _/_, _%_, _≤_, _<_, ℤ}
+use Rattle.lists.proofs.Prelude.{T, eqb, ltb, length, getD, take, arith, lt-ltb, ltb-true}
+use Rattle.lists.proofs.Tests.{and-false, and-split, and-join, test-ext}
+use Rattle.lists.proofs.Members.{getD-mem}
 use Rattle.bit_sets.specs.BitSets.{bitAt}
 use Rattle.bit_sets.proofs.Digits.{bitAt-none}
 use Rattle.pattern_set.specs.PatternSet.{PatternSet, goodSet}
-use Rattle.matching.specs.Matching.{shortest, isCandidate}
-use Rattle.filter_plan.specs.Plan.{textFingerprint, isLikely}
+use Rattle.matching.specs.Matching.{shortest, fits, isCandidate}
+use Rattle.filter_plan.specs.Plan.{hitOrder, textFingerprint, patternFingerprint, ownLength, isLikely}
 use Rattle.filter_plan.proofs.Fingerprints.{textFingerprint-bytes}
-use Rattle.filter_plan.proofs.Checks.{shortest-bound, shortest-positive}
-use Rattle.filter_tables.specs.Tables.{TableOf, setLow, setHigh, fitsAt}
-use Rattle.filter_tables.proofs.Lookup.{candidate-bit, own-bit}
+use Rattle.filter_plan.proofs.HitOrder.{good-number, hitOrder-lt, length-hitOrder}
+use Rattle.filter_plan.proofs.Checks.{shortest-bound, shortest-positive, shortest-own, likely-candidate}
+use Rattle.filter_tables.specs.Tables.{ranked, TableOf, setLow, setHigh, ownLow, ownHigh, fitsAt}
+use Rattle.filter_tables.proofs.Lookup.{own-tests, candidate-bit, own-bit}
 use Rattle.filter_windows.specs.Looks.{Since, Alike, isWithin, Fitting, Looked, SetOf, SetTables, OwnTables}
 use Rattle.filter_windows.proofs.Samples.{samples-fit}
 
@@ -74,3 +77,35 @@ set-tables ps b lowbyte highbyte fits e l h f = record {
   byHigh = subst (λ (m : ℕ). TableOf ps (setHigh m) highbyte) e h;
   byPlace = f;
 }
+
+-- THE LIKELY PATTERNS AMONG THE CANDIDATES: those that have the fingerprint of 17 values, as far as
+-- their own is of them
+pub among-likely : (ps : PatternSet) (text : List ℤ) (lowbyte highbyte : List ℕ) (own alike here set : ℕ) → T (goodSet ps) → TableOf ps ownLow lowbyte
+    → TableOf ps ownHigh highbyte → own ≡ textFingerprint 17 text → Alike lowbyte highbyte own alike
+    → SetOf ps (isCandidate (shortest 17 ps) text) here → ((r : ℕ) → r < 64 → bitAt set r ≡ (bitAt alike r && bitAt here r)) → SetOf ps (isLikely text) set
+unfolding isCandidate isLikely
+among-likely ps text lowbyte highbyte own alike here set g low high o a c f r h =
+    let small : own < 65536 = omega (arith, o, own-fingerprint-lt text) in
+    f r h
+    ∙ ap₂ (λ (x y : Bool). x && y)
+    (a r h ∙ ap₂ (λ (x y : Bool). x && y) (low (own % 256) (omega arith) r h) (high (own / 256) (omega (arith, small)) r h)) (c r h)
+    ∙ go (ltb r (length ps)) refl
+  where
+    p : List ℕ
+    p = ranked ps r
+
+    go : (k : Bool) → ltb r (length ps) ≡ k
+        → (((k && ownLow (own % 256) p) && (k && ownHigh (own / 256) p)) && (k && isCandidate (shortest 17 ps) text p)) ≡ (k && isLikely text p)
+    go false e = refl
+    go true e =
+        let n = hitOrder-lt ps r (omega (arith, length-hitOrder ps g, ltb-true r (length ps) e)) in
+        let m = getD-mem ps (getD (hitOrder ps) r 0) [] n in
+        let same : (ownLow (own % 256) p && ownHigh (own / 256) p) ≡ eqb (textFingerprint (ownLength p) text) (patternFingerprint (ownLength p) p) =
+        ap (λ (x : ℕ). ownLow (x % 256) p && ownHigh (x / 256) p) o ∙ own-tests text p (good-number ps (getD (hitOrder ps) r 0) g n .0) in
+        let E = eqb (textFingerprint (ownLength p) text) (patternFingerprint (ownLength p) p) in
+        let S = eqb (textFingerprint (shortest 17 ps) text) (patternFingerprint (shortest 17 ps) p) in
+        ap (λ (x : Bool). x && isCandidate (shortest 17 ps) text p) same
+        ∙ test-ext (E && isCandidate (shortest 17 ps) text p) (isLikely text p)
+        (λ t. let s = and-split E (isCandidate (shortest 17 ps) text p) t in and-join (fits text p) E (and-split (fits text p) S (s .1) .0) (s .0))
+        (λ t. and-join E (isCandidate (shortest 17 ps) text p) (and-split (fits text p) E t .1)
+        (likely-candidate (shortest 17 ps) text p (shortest-positive 17 ps g (omega arith)) (shortest-own ps p m) t))

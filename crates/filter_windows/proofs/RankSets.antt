@@ -1,53 +1,18 @@
--- SETS OF PATTERNS BY RANK: taking the lowest rank out of a set, and checking the likely patterns
--- one by one.
-use Rattle.lists.proofs.Prelude.{_≡_, _∙_, ap, sym, refl, subst, ap₂, inl, inr, _⊎_, Bool, true, false, not, _&&_, _||_, List, _∷_, List·Memᴰ, List·Memᴰ·head}
-use Rattle.lists.proofs.Prelude.{List·Memᴰ·tail, List·Memᴰ·cases-cons, ℕ, _≤_, _<_, ℤ, T, eqb, ltb, length, getD, drop, arith, eq-eqb, ne-eqb}
-use Rattle.lists.proofs.Prelude.{eqb-true, ltb-true, tabulate, lastOf}
-use Rattle.lists.proofs.Tests.{and-split, and-join, test-ext, and-false, and-true, T-true, true-T, or-false}
-use Rattle.lists.proofs.Rising.{Rising, rising-select, rising-below}
-use Rattle.gaps.specs.Gaps.{holdsGap}
-use Rattle.bit_sets.specs.BitSets.{bitAt, bits}
-use Rattle.bit_sets.proofs.Laws.{mem-bits}
+-- SETS OF PATTERNS BY RANK: the likely patterns are checked one by one, and each answer is that of
+-- all equal patterns.
+use Rattle.lists.proofs.Prelude.{_≡_, _∙_, ap, sym, refl, subst, ap₂, Bool, true, false, not, _&&_, _||_, List, ℕ, _<_, ℤ, T, ltb, length, getD, arith}
+use Rattle.lists.proofs.Prelude.{lt-ltb, ltb-true, same}
+use Rattle.lists.proofs.Tests.{and-split, and-join, and-false, and-true, T-true, true-T, or-false}
+use Rattle.lists.proofs.Same.{same-eq, same-true}
+use Rattle.bit_sets.specs.BitSets.{bitAt}
 use Rattle.bit_sets.proofs.Digits.{bitAt-none}
 use Rattle.pattern_set.specs.PatternSet.{PatternSet, goodSet}
 use Rattle.filter_plan.specs.Plan.{hitOrder, isLikely, isHit}
 use Rattle.filter_plan.proofs.HitOrder.{good-number, hitOrder-lt, length-hitOrder}
-use Rattle.filter_plan.proofs.Checks.{hit-likely, likely-fits}
+use Rattle.filter_plan.proofs.Checks.{hit-likely}
 use Rattle.filter_tables.specs.Tables.{ranked}
+use Rattle.filter_checks.specs.Equal.{EqualTo}
 use Rattle.filter_windows.specs.Looks.{SetOf}
-
--- ---- the lowest member
-
-bits-rise : (m : ℕ) → Rising (λ i j. i < j) (bits m)
-unfolding bits
-bits-rise m = rising-select (λ i j. i < j) (bitAt m) (tabulate 64 (λ i. i)) (rising-below 64)
-
-pub lowest-in : (m r : ℕ) → bits m ≡ r ∷ drop 1 (bits m) → T (bitAt m r)
-lowest-in m r e = mem-bits m r .0 (subst (λ (l : List ℕ). List·Memᴰ r l) (sym e) (List·Memᴰ·head refl)) .1
-
--- without its lowest member a set has the others
-lowest-out : (m n r j : ℕ) → bits m ≡ r ∷ drop 1 (bits m) → bits n ≡ drop 1 (bits m) → j < 64 → bitAt n j ≡ (not (eqb j r) && bitAt m j)
-lowest-out m n r j e f h = test-ext (bitAt n j) (not (eqb j r) && bitAt m j) from to
-  where
-    above : List·Memᴰ j (drop 1 (bits m)) → r < j
-    above d = subst (λ (l : List ℕ). Rising (λ i j. i < j) l) e (bits-rise m) .0 j d
-
-    from : T (bitAt n j) → T (not (eqb j r) && bitAt m j)
-    from t =
-        let d : List·Memᴰ j (drop 1 (bits m)) = subst (λ (l : List ℕ). List·Memᴰ j l) f (mem-bits n j .1 (h, t)) in
-        let l = above d in
-        and-join (not (eqb j r)) (bitAt m j) (rw (ne-eqb j r (λ q. let z : ⊥ = omega arith in z)) tt)
-        (mem-bits m j .0 (subst (λ (l : List ℕ). List·Memᴰ j l) (sym e) (List·Memᴰ·tail d)) .1)
-
-    to : T (not (eqb j r) && bitAt m j) → T (bitAt n j)
-    to t =
-        let s = and-split (not (eqb j r)) (bitAt m j) t in
-        let d = List·Memᴰ·cases-cons (subst (λ (l : List ℕ). List·Memᴰ j l) e (mem-bits m j .1 (h, s .1))) in
-        mem-bits n j .0 (subst (λ (l : List ℕ). List·Memᴰ j l) (sym f) (rest (s .0) d)) .1
-      where
-        rest : T (not (eqb j r)) → (j ≡ r) ⊎ List·Memᴰ j (drop 1 (bits m)) → List·Memᴰ j (drop 1 (bits m))
-        rest u (inl q) = absurd (subst (λ (b : Bool). T (not b)) (eq-eqb j r q) u)
-        rest u (inr d) = d
 
 -- ---- the check of the likely patterns one by one
 
@@ -62,31 +27,53 @@ found-none likely hit j h = (bitAt-none j ∙ go (bitAt likely j), λ t. t)
     go true = refl
     go false = refl
 
-module _ (likely rest rest' found found' r : ℕ) (hit : ℕ → Bool) (inv : Found likely rest found hit)
-    (least : bits rest ≡ r ∷ drop 1 (bits rest)) (out : bits rest' ≡ drop 1 (bits rest)) where
-  found-step : (j : ℕ) → j < 64 → bitAt found' j ≡ ((eqb j r && hit r) || bitAt found j)
+-- rank r is taken, and with it the set of the ranks whose pattern equals that of rank r
+module _ (likely rest rest' found found' r members : ℕ) (hit : ℕ → Bool) (inv : Found likely rest found hit)
+    (alike : (j : ℕ) → j < 64 → T (bitAt members j) → (hit j ≡ hit r) × T (bitAt likely j))
+    (out : (j : ℕ) → j < 64 → bitAt rest' j ≡ (bitAt rest j && not (bitAt members j))) where
+  found-step : (j : ℕ) → j < 64 → bitAt found' j ≡ (bitAt found j || (bitAt members j && hit r))
       → (bitAt found' j ≡ (bitAt likely j && (not (bitAt rest' j) && hit j))) × (T (bitAt rest' j) → T (bitAt likely j))
   found-step j h e = (
-    e ∙ go (eqb j r) refl (bitAt rest j) refl ∙ sym (ap (λ (b : Bool). bitAt likely j && (not b && hit j)) (lowest-out rest rest' r j least out h)),
-    λ t. inv j h .1 (and-split (not (eqb j r)) (bitAt rest j) (subst T (lowest-out rest rest' r j least out h) t) .1),
+    e ∙ go (bitAt members j) refl (bitAt rest j) refl (hit r) refl ∙ sym (ap (λ (b : Bool). bitAt likely j && (not b && hit j)) (out j h)),
+    λ t. inv j h .1 (and-split (bitAt rest j) (not (bitAt members j)) (subst T (out j h) t) .0),
   )
     where
-      is-likely : j ≡ r → bitAt likely j ≡ true
-      is-likely q = true-T (bitAt likely j) (inv j h .1 (rw q (lowest-in rest r least)))
-
-      go : (b : Bool) → eqb j r ≡ b → (c : Bool) → bitAt rest j ≡ c → ((b && hit r) || bitAt found j) ≡ (bitAt likely j && (not (not b && c) && hit j))
-      go true q c f =
-          let s : j ≡ r = eqb-true j r q in
-          let t : bitAt rest j ≡ true = true-T (bitAt rest j) (rw s (lowest-in rest r least)) in
-          rw (inv j h .0, t, is-likely s, s) (or-false (hit r))
-      go false q c f = rw (inv j h .0, f) refl
+      go : (b : Bool) → bitAt members j ≡ b → (c : Bool) → bitAt rest j ≡ c → (d : Bool) → hit r ≡ d
+          → (bitAt found j || (b && d)) ≡ (bitAt likely j && (not (c && not b) && hit j))
+      go true q c f d g =
+          let k = alike j h (T-true (bitAt members j) q) in
+          rw (inv j h .0, f, true-T (bitAt likely j) (k .1), k .0, g) (join c d)
+        where
+          join : (c d : Bool) → ((not c && d) || d) ≡ (not (c && false) && d)
+          join true true = refl
+          join true false = refl
+          join false true = refl
+          join false false = refl
+      go false q c f d g =
+          or-false (bitAt found j) ∙ inv j h .0 ∙ ap (λ (x : Bool). bitAt likely j && (not x && hit j)) (f ∙ sym (and-true c))
 
   -- rank r passes the check, or it does not
-  pub found-yes : hit r ≡ true → ((j : ℕ) → j < 64 → bitAt found' j ≡ (eqb j r || bitAt found j)) → Found likely rest' found' hit
-  found-yes p w j h = found-step j h (w j h ∙ sym (rw (p, and-true (eqb j r)) refl))
+  pub found-yes : hit r ≡ true → ((j : ℕ) → j < 64 → bitAt found' j ≡ (bitAt found j || bitAt members j)) → Found likely rest' found' hit
+  found-yes p w j h = found-step j h (w j h ∙ sym (rw (p, and-true (bitAt members j)) refl))
 
   pub found-no : hit r ≡ false → found' ≡ found → Found likely rest' found' hit
-  found-no p w j h = found-step j h (ap (λ (x : ℕ). bitAt x j) w ∙ sym (rw (p, and-false (eqb j r)) refl))
+  found-no p w j h = found-step j h (ap (λ (x : ℕ). bitAt x j) w ∙ sym (rw (p, and-false (bitAt members j)) (or-false (bitAt found j))))
+
+-- the members of an equal set are likely and have a hit where rank r is and has
+pub equal-alike : (ps : PatternSet) (text : List ℤ) (likely members r : ℕ) → SetOf ps (isLikely text) likely → EqualTo ps r members → r < 64
+    → T (bitAt likely r) → (j : ℕ) → j < 64 → T (bitAt members j) → (isHit text (ranked ps j) ≡ isHit text (ranked ps r)) × T (bitAt likely j)
+equal-alike ps text likely members r l f k t j h u =
+    let s = and-split (ltb j (length ps)) (same (ranked ps r) (ranked ps j)) (subst T (f j h) u) in
+    let e : ranked ps r ≡ ranked ps j = same-eq (ranked ps r) (ranked ps j) (s .1) in
+    let x = and-split (ltb r (length ps)) (isLikely text (ranked ps r)) (subst T (l r k) t) in (
+      ap (isHit text) (sym e),
+      subst T (sym (l j h))
+          (and-join (ltb j (length ps)) (isLikely text (ranked ps j)) (s .0) (subst (λ (p : List ℕ). T (isLikely text p)) e (x .1))),
+    )
+
+-- rank r is in its equal set
+pub equal-self : (ps : PatternSet) (members r : ℕ) → EqualTo ps r members → r < 64 → r < length ps → T (bitAt members r)
+equal-self ps members r f k h = T-true (bitAt members r) (f r k ∙ rw (lt-ltb r (length ps) h) (same-true (ranked ps r) (ranked ps r) refl))
 
 -- all of them are checked
 pub found-all : (ps : PatternSet) (text : List ℤ) (likely found : ℕ) → T (goodSet ps) → SetOf ps (isLikely text) likely
@@ -108,14 +95,17 @@ found-all ps text likely found g l f r h =
         (T-true (isHit text (ranked ps r)) ec)))
     go false ea b eb c ec = refl
 
--- a pattern that is likely at the end of a text is one of the set, and its window lies within the
--- text and holds no gap
+-- none is likely, so none has a hit
+pub found-nothing : (ps : PatternSet) (text : List ℤ) (likely : ℕ) → T (goodSet ps) → SetOf ps (isLikely text) likely → likely ≡ 0 → SetOf ps (isHit text) 0
+found-nothing ps text likely g l e =
+    let hit : ℕ → Bool = λ r. isHit text (ranked ps r) in
+    found-all ps text likely 0 g l (subst (λ (n : ℕ). Found likely n 0 hit) e (found-none likely hit))
+
+-- a rank of the likely set is that of a pattern of the set, which is likely
 pub likely-rank : (ps : PatternSet) (text : List ℤ) (likely r : ℕ) → T (goodSet ps) → SetOf ps (isLikely text) likely → r < 64 → T (bitAt likely r)
-    → (r < length ps) × (getD (hitOrder ps) r 0 < length ps)
-    × (length (ranked ps r) ≤ length text) × (holdsGap (lastOf (length (ranked ps r)) text) ≡ false)
+    → (r < length ps) × (getD (hitOrder ps) r 0 < length ps) × T (isLikely text (ranked ps r))
 likely-rank ps text likely r g l h t =
     let p = ranked ps r in
     let s = and-split (ltb r (length ps)) (isLikely text p) (subst T (l r h) t) in
     let k : r < length ps = ltb-true r (length ps) (true-T (ltb r (length ps)) (s .0)) in
-    let fits = likely-fits text p (s .1) in
-    (k, hitOrder-lt ps r (omega (arith, length-hitOrder ps g)), fits .0, fits .1)
+    (k, hitOrder-lt ps r (omega (arith, length-hitOrder ps g)), s .1)

@@ -1,7 +1,7 @@
 -- THE FINGERPRINTS OF A TEXT, PLACE BY PLACE: a place shifts its bit in and the mask takes the
 -- oldest out, so that after 16 places the fingerprint of 17 values is the same whatever it was
 -- before.
-use lib.Bits.{bitAnd, bitOr, and-mask, or-shifted}
+use lib.Bits.{bitAnd, bitOr, and-mask, and-le-r, or-shifted}
 use lib.Pow.{high, ones-lt, ones-split}
 use Rattle.lists.proofs.Prelude.{_≡_, _∙_, ap, sym, refl, Bool, true, false, cond, List, [], _∷_, _++_, append-assoc, ℕ, zero, suc, _+_, _-_, _*_, _/_, _%_}
 use Rattle.lists.proofs.Prelude.{_^_, _≤_, _<_, ℤ, pos, leZ, length, getD, take, length-take, take-suc, mod-lt, pow-suc, mod-eq-of-lt}
@@ -45,6 +45,20 @@ pub rolled : (n bit m : ℕ) → n < 65536 → bit < 2 → 1 ≤ m → m ≤ 17
 rolled n bit m h b l k =
     let e : n * 2 % 4294967296 ≡ n * 2 = omega arith in
     rw (e, or-shifted n 1 bit b, mask-ones (m - 1) (17 - m) (omega arith)) (and-mask (n * 2 + bit) (m - 1))
+
+-- the lowest bits of the fingerprint of 17 values, by a mask
+pub masked-lt : (own b : ℕ) → 1 ≤ b → b ≤ 17 → bitAnd own (65535 / 2 ^ (17 - b)) < 65536
+masked-lt own b l k =
+    let le : 2 ^ (b - 1) ≤ 2 ^ 16 = pow-le-pow-right (omega arith) {i = b - 1} {j = 16} (omega arith) in
+    rw (mask-ones (b - 1) (17 - b) (omega arith)) (omega (arith, and-le-r own (2 ^ (b - 1) - 1), le))
+
+pub masked : (own b : ℕ) (text : List ℤ) → 1 ≤ b → b ≤ 17 → own ≡ textFingerprint 17 text
+    → bitAnd own (65535 / 2 ^ (17 - b)) ≡ textFingerprint b text
+masked own b text l k e =
+    ap (bitAnd own) (mask-ones (b - 1) (17 - b) (omega arith))
+    ∙ and-mask own (b - 1)
+    ∙ ap (λ (n : ℕ). n % 2 ^ (b - 1)) e
+    ∙ sym (textFingerprint-part b 17 text l k)
 
 -- the fingerprint one place on
 fingerprint-next : (m : ℕ) (text : List ℤ) (p : ℕ) → 1 ≤ m → p < length text

@@ -5,7 +5,9 @@ use Rattle.gaps.specs.Gaps.{holdsGap}
 use Rattle.bit_sets.specs.BitSets.{bitAt}
 use Rattle.pattern_set.specs.PatternSet.{PatternSet}
 use Rattle.matching.specs.Matching.{shortest}
-use Rattle.filter_tables.specs.Tables.{ranked, TableOf, setLow, setHigh, ownLow, ownHigh, fitsAt, Ranks, Parents}
+use Rattle.filter_tables.specs.Tables.{ranked, TableOf, setLow, setHigh, ownLow, ownHigh, fitsAt, Ranks}
+use Rattle.filter_checks.specs.Equal.{EqualRanks}
+use Rattle.filter_checks.specs.Comparisons.{Comparisons}
 
 -- the bit that place p adds to the fingerprints: 1 where its value is not below the one before it
 unfoldable pub newBit : List ℤ → ℕ → ℕ
@@ -59,12 +61,13 @@ pub record OwnTables (ps : PatternSet) (lowbyte highbyte fits : List ℕ) : Type
   pub byHigh : TableOf ps ownHigh highbyte
   pub byPlace : TableOf ps fitsAt fits
 
--- for the check: pattern numbers by rank, and global parents
-pub record CheckTables (ps : PatternSet) (numbers parents : List ℕ) : Type 0 where
+-- for the check: by rank pattern numbers and equal patterns, and the comparisons of each pattern
+pub record CheckTables (ps : PatternSet) (numbers equal checks : List ℕ) : Type 0 where
   pub ranks : Ranks ps numbers
-  pub parentLists : Parents ps parents
+  pub equals : EqualRanks ps equal
+  pub comparisons : Comparisons ps checks
 
 -- for the hits: for the likely patterns and for their check
-pub record HitTables (ps : PatternSet) (lowbyte highbyte fits numbers parents : List ℕ) : Type 0 where
+pub record HitTables (ps : PatternSet) (lowbyte highbyte fits numbers equal checks : List ℕ) : Type 0 where
   pub own : OwnTables ps lowbyte highbyte fits
-  pub check : CheckTables ps numbers parents
+  pub check : CheckTables ps numbers equal checks

@@ -1,10 +1,11 @@
 // A look at the patterns of a place of a text: by its fingerprint and by the samples behind the
-// last gap first, then by the global parents of the windows that are left.
-ghost use Rattle.lists.specs.Prelude.{_≡_, false, [], suc, min, _+_, _-_, _*_, _/_, _%_, _^_, _≤_, _<_, pos, leZ, length, getD, take, lastOf};
-ghost use Rattle.gaps.specs.Gaps.{holdsGap};
+// last gap first, then by comparisons of values in the windows that are left.
+ghost use Rattle.lists.specs.Prelude.{_≡_, List, [], suc, min, _+_, _-_, _*_, _/_, _%_, _^_, _≤_, _<_, ℤ, pos, leZ, T, length, getD, take};
 ghost use Rattle.pattern_set.specs.PatternSet.{patternsOf, IsSet};
+ghost use Rattle.matching.specs.Matching.{shortest, isCandidate};
 ghost use Rattle.filter_plan.specs.Plan.{textFingerprint, isLikely, isHit};
-ghost use Rattle.filter_tables.specs.Tables.{Parents};
+ghost use Rattle.filter_tables.specs.Tables.{TableOf, ownLow, ownHigh};
+ghost use Rattle.filter_checks.specs.Comparisons.{Comparisons};
 ghost use Rattle.filter_windows.specs.Looks.{newBit, Since, Alike, Fitting, Looked, SetOf, CheckTables, HitTables};
 
 // ---- fingerprints
@@ -38,6 +39,17 @@ pub fn roll(fingerprint: u32, bit: u32, m: usize) -> u32
 {
     let mask: u32 = 65535 >> (17 - m);
     ((fingerprint << 1) | bit) & mask
+}
+
+// The set fingerprint, that of the last b values, where own is that of the last 17: its lowest
+// b - 1 bits.
+pub fn set_fingerprint(own: u32, b: usize) -> u32
+    requires { ⌜ (1 ≤ b) × (b ≤ 17) ⌝ }
+    ensures { λ r. ⌜ r < 65536 ⌝ }
+    ensures { λ r. ⌜ ((text : List ℤ) → own ≡ textFingerprint 17 text → r ≡ textFingerprint b text) ⌝ }
+{
+    let mask: u32 = 65535 >> (17 - b);
+    own & mask
 }
 
 // The fingerprint of the last 17 values up to place p, where own is the one before it.
@@ -160,47 +172,47 @@ fn look(
 
 // ---- windows
 
-// Whether pattern j, whose window lies within the text and holds no gap, has a hit at the last
-// place p: its window is checked by its global parents.
-fn has_hit(set: &[u32], text: &[i32], p: usize, j: usize, parents: &[u32]) -> bool
+// Whether pattern j, which is likely at the last place p, has a hit there: its window is checked by
+// the comparisons that its own fingerprint does not decide.
+fn has_hit(set: &[u32], text: &[i32], p: usize, j: usize, checks: &[u32]) -> bool
     requires { ⌜ IsSet (now set) ⌝ }
-    requires { ⌜ (p < length (now text)) × (j < length (patternsOf (now set))) × (length (getD (patternsOf (now set)) j []) ≤ suc p) ⌝ }
-    requires { ⌜ holdsGap (lastOf (length (getD (patternsOf (now set)) j [])) (take (suc p) (now text))) ≡ false ⌝ }
-    requires { ⌜ Parents (patternsOf (now set)) (now parents) ⌝ }
+    requires { ⌜ (p < length (now text)) × (j < length (patternsOf (now set))) ⌝ }
+    requires { ⌜ T (isLikely (take (suc p) (now text)) (getD (patternsOf (now set)) j [])) ⌝ }
+    requires { ⌜ Comparisons (patternsOf (now set)) (now checks) ⌝ }
     ensures { λ r. ⌜ r ≡ isHit (take (suc p) (now (text .entry))) (getD (patternsOf (now (set .entry))) j []) ⌝ }
 {
     let m = set_access::pattern_length(set, j);
-    let first = set_access::pattern_start(set, 0);
-    let a = set_access::pattern_start(set, j) - first;
-    let e = a + m;
     let end = p + 1;
     let begin = end - m;
-    compute_parents::passes(&parents[a..e], &text[begin..end])
+    filter_checks::check::passes(set, j, checks, &text[begin..end])
 }
 
-// Of the likely patterns those that have a hit at the last place p.
+// Of the likely patterns those that have a hit at the last place p. Of equal patterns one is
+// checked.
 fn verified(
     set: &[u32],
     text: &[i32],
     p: usize,
     likely: u64,
     numbers: &[u32; 64],
-    parents: &[u32],
+    equal: &[u64; 64],
+    checks: &[u32],
 ) -> u64
     requires { ⌜ IsSet (now set) ⌝ }
     requires { ⌜ p < length (now text) ⌝ }
     requires { ⌜ SetOf (patternsOf (now set)) (isLikely (take (suc p) (now text))) likely ⌝ }
-    requires { ⌜ CheckTables (patternsOf (now set)) (now numbers) (now parents) ⌝ }
+    requires { ⌜ CheckTables (patternsOf (now set)) (now numbers) (now equal) (now checks) ⌝ }
     ensures { λ s. ⌜ SetOf (patternsOf (now (set .entry))) (isHit (take (suc p) (now (text .entry)))) s ⌝ }
 {
     let mut rest = likely;
     let mut found = 0;
     while rest != 0 {
         let r = bit_sets::lowest(rest);
-        if has_hit(set, text, p, casts::wide(numbers[r]), parents) {
-            found = bit_sets::with_bit(found, r);
+        let members = equal[r];
+        if has_hit(set, text, p, casts::wide(numbers[r]), checks) {
+            found = bit_sets::either(found, members);
         }
-        rest = bit_sets::without_lowest(rest);
+        rest = bit_sets::without(rest, members);
     }
     found
 }
@@ -217,13 +229,48 @@ pub fn hits_at(
     ownhigh: &[u64; 256],
     fits: &[u64; 256],
     numbers: &[u32; 64],
-    parents: &[u32],
+    equal: &[u64; 64],
+    checks: &[u32],
 ) -> u64
     requires { ⌜ IsSet (now set) ⌝ }
     requires { ⌜ (p < length (now text)) × (own ≡ textFingerprint 17 (take (suc p) (now text))) × Since (now text) (suc p) begin ⌝ }
-    requires { ⌜ HitTables (patternsOf (now set)) (now ownlow) (now ownhigh) (now fits) (now numbers) (now parents) ⌝ }
+    requires { ⌜ HitTables (patternsOf (now set)) (now ownlow) (now ownhigh) (now fits) (now numbers) (now equal) (now checks) ⌝ }
     ensures { λ s. ⌜ SetOf (patternsOf (now (set .entry))) (isHit (take (suc p) (now (text .entry)))) s ⌝ }
 {
     let likely = look(ownlow, ownhigh, fits, own, p + 1 - begin);
-    verified(set, text, p, likely, numbers, parents)
+    if likely == 0 {
+        0
+    } else {
+        verified(set, text, p, likely, numbers, equal, checks)
+    }
+}
+
+// The patterns that have a hit at the last place p, of which the candidates are known, where own is
+// the fingerprint of the last 17 values: a pattern that is likely is a candidate.
+pub fn hits_among(
+    set: &[u32],
+    text: &[i32],
+    p: usize,
+    own: u32,
+    candidates: u64,
+    ownlow: &[u64; 256],
+    ownhigh: &[u64; 256],
+    numbers: &[u32; 64],
+    equal: &[u64; 64],
+    checks: &[u32],
+) -> u64
+    requires { ⌜ IsSet (now set) ⌝ }
+    requires { ⌜ (p < length (now text)) × (own ≡ textFingerprint 17 (take (suc p) (now text))) ⌝ }
+    requires { ⌜ SetOf (patternsOf (now set)) (isCandidate (shortest 17 (patternsOf (now set))) (take (suc p) (now text))) candidates ⌝ }
+    requires { ⌜ TableOf (patternsOf (now set)) ownLow (now ownlow) × TableOf (patternsOf (now set)) ownHigh (now ownhigh) ⌝ }
+    requires { ⌜ CheckTables (patternsOf (now set)) (now numbers) (now equal) (now checks) ⌝ }
+    ensures { λ s. ⌜ SetOf (patternsOf (now (set .entry))) (isHit (take (suc p) (now (text .entry)))) s ⌝ }
+{
+    let alike = by_fingerprint(ownlow, ownhigh, own);
+    let likely = bit_sets::common(alike, candidates);
+    if likely == 0 {
+        0
+    } else {
+        verified(set, text, p, likely, numbers, equal, checks)
+    }
 }

@@ -6,7 +6,7 @@ ghost use Rattle.realization.specs.Realization.{leastRealization, failureLength
 ghost use Rattle.global_parents.specs.GlobalParents.{globalParents};
 ghost use Rattle.entries.specs.Entries.{told, after, distancesEntry, listEntry, encodeEntry, decodeEntry, emptySetEntry, checkEntry, addEntry, buildEntry};
 ghost use Rattle.entries.specs.Entries.{nextEntry, withdrawEntry, streamEntry, streamRises, streamState, firstEntry, filterEntry, filterRises};
-ghost use Rattle.finder_c.specs.Told.{tellsWritten, tellsNext, tellsCode, tellsCounts, tellsStreamed, tellsFirst};
+ghost use Rattle.finder_c.specs.Told.{tellsWritten, tellsNext, tellsCode, tellsCounts, tellsStreamed, tellsNumbers, tellsFirst};
 use answers::Built;
 use answers::Counts;
 use answers::Encoded;
@@ -53,6 +53,15 @@ pub struct FinderCounts {
 #[repr(C)]
 pub struct FinderStreamed {
     pub state: SearchState,
+    pub refusal: u32,
+    pub ended: u32,
+    pub taken: usize,
+    pub hits: usize,
+    pub attempts: usize,
+}
+
+// The same without the state.
+pub struct StreamNumbers {
     pub refusal: u32,
     pub ended: u32,
     pub taken: usize,
@@ -174,11 +183,10 @@ fn filtered(f: Filtered) -> FinderCounts
     }
 }
 
-fn with_counts(state: SearchState, ended: u32, c: Counts) -> FinderStreamed
-    ensures { λ r. ⌜ (tellsStreamed r ≡ (0, (ended, c .taken, c .hits, c .attempts))) × (r .state ≡ state) ⌝ }
+fn with_counts(ended: u32, c: Counts) -> StreamNumbers
+    ensures { λ r. ⌜ tellsNumbers r ≡ (0, (ended, c .taken, c .hits, c .attempts)) ⌝ }
 {
-    FinderStreamed {
-        state,
+    StreamNumbers {
         refusal: 0,
         ended,
         taken: c.taken,
@@ -187,14 +195,13 @@ fn with_counts(state: SearchState, ended: u32, c: Counts) -> FinderStreamed
     }
 }
 
-fn streamed(state: SearchState, a: StreamAnswer) -> FinderStreamed
-    ensures { λ r. ⌜ (tellsStreamed r ≡ toldStreamed a) × (r .state ≡ state) ⌝ }
+fn streamed(a: StreamAnswer) -> StreamNumbers
+    ensures { λ r. ⌜ tellsNumbers r ≡ toldStreamed a ⌝ }
 {
     match a {
-        StreamAnswer::Ended(c) => with_counts(state, 1, c),
-        StreamAnswer::Full(c) => with_counts(state, 0, c),
-        StreamAnswer::Refused(r) => FinderStreamed {
-            state,
+        StreamAnswer::Ended(c) => with_counts(1, c),
+        StreamAnswer::Full(c) => with_counts(0, c),
+        StreamAnswer::Refused(r) => StreamNumbers {
             refusal: answers::refusal_number(r),
             ended: 0,
             taken: 0,
@@ -364,9 +371,17 @@ pub extern "C" fn finder_stream_search(
         (now (hits .entry)) (now (rises .entry))) (now (rises .entry)) ⌝ }
 {
     let s = finder::stream_search(set, automaton, state, values, hits, rises);
-    let next = s.state;
     let answer = s.answer;
-    streamed(next, answer)
+    let told = streamed(answer);
+    let next = s.state;
+    FinderStreamed {
+        state: next,
+        refusal: told.refusal,
+        ended: told.ended,
+        taken: told.taken,
+        hits: told.hits,
+        attempts: told.attempts,
+    }
 }
 
 #[no_mangle]

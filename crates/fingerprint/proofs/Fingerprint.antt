@@ -1,7 +1,9 @@
 -- A fingerprint is read off the parent distances: a value is not below the one before it exactly if
 -- its parent is that one, at distance 1. So values with equal trees have equal fingerprints. And
--- how a fingerprint grows by a value at the end and sheds one at the front.
-use Rattle.lists.proofs.Prelude.{_≡_, _∙_, ap, sym, refl, Bool, true, false, cond, List, [], _∷_, _++_, ℕ, suc, _+_, _*_, _%_, _^_, _<_, ℤ, leZ, eqb, length}
+-- how a fingerprint grows by a value at the end and sheds one at the front, and that it tells where
+-- the values fall.
+use Rattle.lists.proofs.Prelude.{_≡_, _∙_, ap, sym, refl, subst, Bool, true, false, cond, List, [], _∷_, _++_, ℕ, zero, suc, _+_, _*_, _%_, _^_, _<_}
+use Rattle.lists.proofs.Prelude.{ℤ, pos, leZ, eqb, length, getD}
 use Rattle.lists.proofs.Prelude.{length-append, pow-suc, mod-eq-of-lt, mul-add-mod-self-right, add-one, add-two, arith, ne-eqb, lastOf}
 use Rattle.cartesian.specs.Cartesian.{tree, distances}
 use Rattle.cartesian.specs.Windows.{suffixDistances}
@@ -96,3 +98,34 @@ pub fingerprint-tail : (x y : ℤ) (ys : List ℤ) → fingerprint (y ∷ ys) �
 unfolding fingerprint
 fingerprint-tail x y ys =
     sym (mul-add-mod-self-right (cond (leZ x y) 1 0) (2 ^ length ys) (fingerprint (y ∷ ys)) ∙ mod-eq-of-lt (fingerprint-lt y ys))
+
+-- ---- bit by bit
+
+-- a highest bit and what is below it
+highest : (a b : Bool) (m x y : ℕ) → x < m → y < m → cond a 1 0 * m + x ≡ cond b 1 0 * m + y → (a ≡ b) × (x ≡ y)
+highest true true m x y h k e = (refl, omega arith)
+highest true false m x y h k e = absurd (let z : ⊥ = omega arith in z)
+highest false true m x y h k e = absurd (let z : ⊥ = omega arith in z)
+highest false false m x y h k e = (refl, omega arith)
+
+-- values with equal fingerprints rise and fall at the same places
+pub fingerprint-steps : (xs ys : List ℤ) → length xs ≡ length ys → fingerprint xs ≡ fingerprint ys
+    → (k : ℕ) → suc k < length xs → leZ (getD xs k (pos 0)) (getD xs (suc k) (pos 0)) ≡ leZ (getD ys k (pos 0)) (getD ys (suc k) (pos 0))
+unfolding fingerprint
+fingerprint-steps [] ys e f k h = absurd (let z : ⊥ = omega arith in z)
+fingerprint-steps (x ∷ []) ys e f k h = absurd (let z : ⊥ = omega arith in z)
+fingerprint-steps (x ∷ y ∷ xs) [] e f k h = absurd (let z : ⊥ = omega arith in z)
+fingerprint-steps (x ∷ y ∷ xs) (u ∷ []) e f k h = absurd (let z : ⊥ = omega arith in z)
+fingerprint-steps (x ∷ y ∷ xs) (u ∷ v ∷ ys) e f k h =
+    let l : length ys ≡ length xs = omega arith in
+    let below : fingerprint (v ∷ ys) < 2 ^ length xs = subst (λ (n : ℕ). fingerprint (v ∷ ys) < 2 ^ n) l (fingerprint-lt v ys) in
+    let top =
+    highest (leZ x y) (leZ u v) (2 ^ length xs) (fingerprint (y ∷ xs)) (fingerprint (v ∷ ys)) (fingerprint-lt y xs) below (rw l at f) in
+    go k h (top .0) (fingerprint-steps (y ∷ xs) (v ∷ ys) (omega arith) (top .1))
+  where
+    go : (k : ℕ) → suc k < length (x ∷ y ∷ xs) → leZ x y ≡ leZ u v
+        → ((k : ℕ) → suc k < length (y ∷ xs) → leZ (getD (y ∷ xs) k (pos 0)) (getD (y ∷ xs) (suc k) (pos 0)) ≡ leZ (getD (v ∷ ys) k (pos 0))
+        (getD (v ∷ ys) (suc k) (pos 0)))
+        → leZ (getD (x ∷ y ∷ xs) k (pos 0)) (getD (x ∷ y ∷ xs) (suc k) (pos 0)) ≡ leZ (getD (u ∷ v ∷ ys) k (pos 0)) (getD (u ∷ v ∷ ys) (suc k) (pos 0))
+    go zero h t ih = t
+    go (suc k) h t ih = ih k (omega arith)

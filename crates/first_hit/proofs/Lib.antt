@@ -1,3 +1,3 @@
 -- The root of the crate's laws.
-pub mod Reading
+pub mod Stopping
 pub mod Entries

@@ -1,55 +1,60 @@
 // The first hit of a whole text, without reading on after it. Document 02, 2.5 and 2.6; refusals
 // 1 5 15 7 9.
-ghost use Rattle.lists.specs.Prelude.{_≡_, _≤_, length};
+ghost use Rattle.lists.specs.Prelude.{_≡_, _*_, _≤_, length};
 ghost use Rattle.answers.specs.Told.{toldFirst};
 ghost use Rattle.pattern_set.specs.PatternSet.{patternsOf};
-ghost use Rattle.entries.specs.Entries.{firstMet, told, searchConditions, firstEntry};
+ghost use Rattle.matching.specs.Matching.{hits};
+ghost use Rattle.entries.specs.Entries.{firstMet, told, searchConditions, firstOf, firstEntry};
 ghost use Rattle.automaton_lookup.specs.Made.{Whole};
-ghost use Rattle.first_hit.specs.Stopped.{IsStopped};
 use answers::FirstHit;
 use answers::Hit;
 use answers::Refusal;
 use answers::SearchState;
 use search_check::SearchSize;
 
-// The node that the last value read leads to, and the values read.
-struct Stopped {
-    node: usize,
-    read: usize,
-}
-
-// Reads values until one has a hit or none is left.
-fn read_to_hit(set: &[u32], automaton: &[u32], k: usize, count: usize, text: &[i32]) -> Stopped
-    requires { ⌜ Whole (now set) (now automaton) k count × (length (now text) ≤ 1048576) ⌝ }
-    ensures { λ r. ⌜ IsStopped (patternsOf (now (set .entry))) (now (text .entry)) r ⌝ }
+// The first hit of a text, from a call of the stream search over it whose hit array has room for
+// the hits of one value: it is full as soon as a value has a hit, and reads no other.
+fn first_of_call(
+    set: &[u32],
+    automaton: &[u32],
+    k: usize,
+    count: usize,
+    text: &[i32],
+    list: &mut [u32],
+) -> FirstHit
+    requires { ⌜ Whole (now set) (now automaton) k count × (length (now text) ≤ 1048576) × (length (now list) ≡ 2 * k) ⌝ }
+    ensures { λ r. ⌜ toldFirst r ≡ (0, firstOf (length (now (text .entry))) (hits (patternsOf (now (set .entry))) (now (text .entry)))) ⌝ }
 {
     let mut places = [0u32; 256];
     let mut heights = [0i32; 256];
-    let mut first: usize = 0;
-    let mut next: usize = 0;
-    let mut node: usize = 0;
-    let mut i: usize = 0;
-    while i < text.len() && stream_step::lists_none(set, automaton, k, count, node) {
-        let r = read_value::read_value(
-            set,
-            automaton,
-            k,
-            count,
-            &mut places,
-            &mut heights,
-            first,
-            next,
-            node,
-            i as u32,
-            text,
-            i,
-        );
-        first = r.first;
-        next = r.next;
-        node = r.node;
-        i += 1;
+    let mut recent = [0i32; 256];
+    let mut rises = [0i32; 64];
+    let left = stream_call::search_values(
+        set,
+        automaton,
+        k,
+        count,
+        0,
+        0,
+        0,
+        0,
+        &mut places,
+        &mut heights,
+        &mut recent,
+        text,
+        list,
+        &mut rises,
+    );
+    let counts = left.counts;
+    if counts.hits == 0 {
+        return FirstHit::NoHit(counts.taken);
     }
-    Stopped { node, read: i }
+    let last = casts::wide(list[0]);
+    FirstHit::Found(Hit {
+        last,
+        pattern: casts::wide(list[1]),
+        read: last + 1,
+    })
 }
 
 // The first hit of a text, or the refusal of one that is too long, over the k patterns of a set and
@@ -61,17 +66,8 @@ fn search_text(set: &[u32], automaton: &[u32], k: usize, count: usize, text: &[i
     if text.len() > SearchState::LONGEST {
         return FirstHit::Refused(Refusal::TextTooLong);
     }
-    let s = read_to_hit(set, automaton, k, count, text);
-    if stream_step::lists_none(set, automaton, k, count, s.node) {
-        return FirstHit::NoHit(s.read);
-    }
-    let pattern = stream_step::first_listed(set, automaton, k, count, s.node);
-    let last = s.read - 1;
-    FirstHit::Found(Hit {
-        last,
-        pattern,
-        read: last + 1,
-    })
+    let mut list = [0u32; 128];
+    first_of_call(set, automaton, k, count, text, &mut list[..2 * k])
 }
 
 // Tells the first hit of a text, by last place, longer pattern first, then lower number, and how

@@ -1,8 +1,8 @@
 -- One comparison of a value with its global parent, as facts: the parent is not above the value,
 -- and below it where the parent is to the right.
-use Rattle.lists.proofs.Prelude.{inl, inr, _⊎_, _&&_, _||_, List, ℕ, _≤_, _<_, ℤ, pos, leZ, ltZ, _≤ℤ_, _<ℤ_, ltZ-yes, leZ-yes, T, leb, leb→le, le→leb, getD}
-use Rattle.lists.proofs.Prelude.{arith}
-use Rattle.lists.proofs.Tests.{and-split, and-join, or-cases, or-left, or-right}
+use Rattle.lists.proofs.Prelude.{_≡_, inl, inr, _⊎_, _&&_, _||_, List, ℕ, _≤_, _<_, ℤ, pos, leZ, ltZ, _≤ℤ_, _<ℤ_, ltZ-yes, leZ-yes, T, leb, leb→le, le→leb}
+use Rattle.lists.proofs.Prelude.{getD, arith}
+use Rattle.lists.proofs.Tests.{and-split, and-join, test-ext, or-cases, or-left, or-right}
 use Rattle.lists.proofs.Order.{≤ℤ-total, <ℤ-≤ℤ}
 use Rattle.global_parents.specs.Passes.{passesAt}
 
@@ -53,3 +53,11 @@ below-passes xs g i h = whole (value xs g) (value xs i) g i (inl h)
 pub not-above-passes : (xs : List ℤ) (g i : ℕ) → g ≤ i → value xs g ≤ℤ value xs i → T (passesAt xs g i)
 unfolding passesAt
 not-above-passes xs g i k h = whole (value xs g) (value xs i) g i (inr (h, k))
+
+-- ---- the comparison as one test, by the side of the parent
+
+pub passes-left : (xs : List ℤ) (g i : ℕ) → g ≤ i → leZ (getD xs g (pos 0)) (getD xs i (pos 0)) ≡ passesAt xs g i
+passes-left xs g i h = test-ext _ (passesAt xs g i) (λ t. not-above-passes xs g i h (leZ-yes t)) (λ t. passes-not-above xs g i t .le)
+
+pub passes-right : (xs : List ℤ) (g i : ℕ) → i < g → ltZ (getD xs g (pos 0)) (getD xs i (pos 0)) ≡ passesAt xs g i
+passes-right xs g i h = test-ext _ (passesAt xs g i) (λ t. below-passes xs g i (ltZ-yes t)) (λ t. passes-below xs g i h t .lt)

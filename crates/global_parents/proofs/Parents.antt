@@ -12,6 +12,7 @@ use Rattle.cartesian.proofs.HasTree.{tree-has}
 use Rattle.cartesian.proofs.Structure.{orElse, treeDistances, distances-tree, length-treeDistances}
 use Rattle.global_parents.specs.GlobalParents.{rootOf, lastLeftChild, isPrefixChild, globalParent, globalParents}
 use Rattle.global_parents.specs.Parents.{parentsFrom, parents}
+use Rattle.global_parents.specs.Passes.{ParentsArePlaces}
 use Rattle.global_parents.proofs.Prefix.{treeOf-take, leftChildren, last-prefix}
 use Rattle.global_parents.proofs.Parts.{length-parentsFrom, parent-left, parent-root, parent-right, child-left, child-root, child-right, distance-left}
 use Rattle.global_parents.proofs.Parts.{distance-root, distance-right}
@@ -206,3 +207,20 @@ globalParents-tree t =
 -- THE LAW
 pub globalParents-parents : (xs : List ℤ) → globalParents (distances xs) ≡ parents (tree xs)
 globalParents-parents xs = ap globalParents (distances-tree (tree-has xs)) ∙ globalParents-tree (tree xs)
+
+-- ---- global parents are places
+
+globalParent-lt : (ds : List ℕ) (i : ℕ) → i < length ds → globalParent ds i < length ds
+unfolding globalParent
+globalParent-lt ds i h =
+    go (lastBelow (λ j. ltb i j && isPrefixChild ds i j) (length ds)) refl (lastBelow-le (λ j. ltb i j && isPrefixChild ds i j) (length ds))
+  where
+    go : (q : ℕ) → lastBelow (λ j. ltb i j && isPrefixChild ds i j) (length ds) ≡ q → q ≤ length ds → globalParent ds i < length ds
+    go zero e l = rw e (omega arith)
+    go (suc j) e l = rw e l
+
+pub globalParents-places : (ds : List ℕ) → ParentsArePlaces (globalParents ds)
+unfolding globalParents
+globalParents-places ds i h =
+    let k : i < length ds = rw length-tabulate at h in
+    rw (length-tabulate, getD-tabulate (length ds) (globalParent ds) 0 i k) (globalParent-lt ds i k)

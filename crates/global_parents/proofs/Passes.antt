@@ -212,3 +212,18 @@ passes-iff xs ws h =
       λ p. treeDistances-injective (tree ws) t (sym (distances-tree (tree-has ws)) ∙ distances-tree (passes-has ws t e (passes-parents t ws .0 p))),
       λ q. passes-parents t ws .1 (has-passes ws t (subst (λ (u : Tree). HasTree ws u) q (tree-has ws))),
     )
+
+-- the root is its own parent
+tree-root : (t : Tree) → 0 < size t → (i : ℕ) × (i < size t) × (globalParent (treeDistances t) i ≡ i)
+unfolding parents size
+tree-root leaf h = absurd (let z : ⊥ = omega arith in z)
+tree-root (node l r) h =
+    let k : size l < size (node l r) = omega arith in
+    (size l, k, globalParent-tree (node l r) (size l) k ∙ parent-root 0 (size l) l r)
+
+pub root-parent : (xs : List ℤ) → 0 < length xs → (i : ℕ) × (i < length xs) × (globalParent (distances xs) i ≡ i)
+root-parent xs h =
+    let d : distances xs ≡ treeDistances (tree xs) = distances-tree (tree-has xs) in
+    let e = length-has (tree-has xs) in
+    let r = tree-root (tree xs) (omega (arith, e)) in
+    (r .0, omega (arith, e, r .1), ap (λ (l : List ℕ). globalParent l (r .0)) d ∙ r .2)

@@ -79,27 +79,27 @@ flatten-le f g (suc n) h =
     let last = h n (omega arith) in
     rw (flatten-tabulate n f, flatten-tabulate n g, length-append (flatten (tabulate n f)) (f n), length-append (flatten (tabulate n g)) (g n)) (omega arith)
 
--- ---- rows of eight words
+-- ---- rows of sixteen words
 
-length-rows : {A : Type 0} (n : ℕ) (f : ℕ → List A) → ((i : ℕ) → length (f i) ≡ 8) → length (flatten (tabulate n f)) ≡ 8 * n
+pub length-rows : {A : Type 0} (n : ℕ) (f : ℕ → List A) → ((i : ℕ) → length (f i) ≡ 16) → length (flatten (tabulate n f)) ≡ 16 * n
 unfolding tabulate flatten
 length-rows zero f h = omega arith
 length-rows (suc n) f h =
     ap length (flatten-tabulate n f) ∙ length-append (flatten (tabulate n f)) (f n) ∙ (omega (arith, length-rows n f h, h n))
 
 -- place j of row i
-pub getD-rows : {A : Type 0} (n : ℕ) (f : ℕ → List A) (d : A) → ((i : ℕ) → length (f i) ≡ 8) → (i j : ℕ) → i < n → j < 8
-    → getD (flatten (tabulate n f)) (8 * i + j) d ≡ getD (f i) j d
+pub getD-rows : {A : Type 0} (n : ℕ) (f : ℕ → List A) (d : A) → ((i : ℕ) → length (f i) ≡ 16) → (i j : ℕ) → i < n → j < 16
+    → getD (flatten (tabulate n f)) (16 * i + j) d ≡ getD (f i) j d
 getD-rows zero f d h i j k l = absurd (let z : ⊥ = omega arith in z)
 getD-rows {A} (suc n) f d h i j k l =
-    ap (λ (l : List A). getD l (8 * i + j) d) (flatten-tabulate n f) ∙ go (decLt i n) (getD-rows n f d h i j)
+    ap (λ (l : List A). getD l (16 * i + j) d) (flatten-tabulate n f) ∙ go (decLt i n) (getD-rows n f d h i j)
   where
-    go : Dec (i < n) → (i < n → j < 8 → getD (flatten (tabulate n f)) (8 * i + j) d ≡ getD (f i) j d)
-        → getD (flatten (tabulate n f) ++ f n) (8 * i + j) d ≡ getD (f i) j d
-    go (yes b) ih = List·getD-append (flatten (tabulate n f)) (f n) d (8 * i + j) (omega (arith, length-rows n f h)) ∙ ih b l
+    go : Dec (i < n) → (i < n → j < 16 → getD (flatten (tabulate n f)) (16 * i + j) d ≡ getD (f i) j d)
+        → getD (flatten (tabulate n f) ++ f n) (16 * i + j) d ≡ getD (f i) j d
+    go (yes b) ih = List·getD-append (flatten (tabulate n f)) (f n) d (16 * i + j) (omega (arith, length-rows n f h)) ∙ ih b l
     go (no b) ih =
         let e : i ≡ n = omega arith in
-        let p : 8 * i + j ≡ length (flatten (tabulate n f)) + j = omega (arith, length-rows n f h) in
+        let p : 16 * i + j ≡ length (flatten (tabulate n f)) + j = omega (arith, length-rows n f h) in
         ap (λ (q : ℕ). getD (flatten (tabulate n f) ++ f n) q d) p
         ∙ getD-append-add (flatten (tabulate n f)) (f n) j d
         ∙ ap (λ (q : ℕ). getD (f q) j d) (sym e)

@@ -1,5 +1,5 @@
 -- An array that begins with the words of an automaton has all its records.
-use Rattle.lists.proofs.Prelude.{_≡_, _∙_, ap, true, List, ℕ, _+_, _*_, _≤_, _<_, length, take, length-append, take-append-le, arith, begins}
+use Rattle.lists.proofs.Prelude.{_≡_, _∙_, ap, true, List, ℕ, _+_, _-_, _*_, _≤_, _<_, length, take, length-append, take-append-le, arith, begins}
 use Rattle.lists.proofs.Tests.{T-true}
 use Rattle.lists.proofs.Same.{begins-iff}
 use Rattle.automaton_model.specs.Automaton.{nodes, automatonWords}
@@ -14,7 +14,7 @@ begun set automaton k g e z b m h =
     let ps = patternsOf set in
     let w = automatonWords ps in
     let r = begins-iff automaton w .0 (T-true (begins automaton w) b) in
-    let n = 2 * k + 1 + 8 * m in
+    let n = 2 * k + 1 + (16 * m - 8) in
     record {
       isSet = g;
       patterns = e;

@@ -17,7 +17,7 @@ use Rattle.search_model.specs.Search.{Position, goodState, Called, stateAfter, 
 use Rattle.entries.proofs.Refusals as refusals
 use Rattle.entries.proofs.Searchable.{search-accepted}
 use Rattle.entries.proofs.Stream.{fromEight}
-use Rattle.stream_call.specs.Taken.{IsLeft}
+use Rattle.stream_call.specs.Taken.{IsLeft, stateOf}
 use Rattle.matching.proofs.HitWords.{length-hitWords}
 
 module _ (ws automaton : List ℕ) (st : SearchState) (xs : List ℤ) (out : List ℕ) (rises : List ℤ) where
@@ -98,3 +98,9 @@ module _ (ws automaton : List ℕ) (st : SearchState) (xs : List ℤ) (out : Lis
           a .1,
           u ∙ refusals.left-accepted (0, 0, 0, 0) second rises n,
         )
+
+-- the same numbers make the same state
+pub same-state : {t u n m k l f g : ℕ} (places : List ℕ) (values recent : List ℤ) → (t ≡ u) × (n ≡ m) × (k ≡ l) × (f ≡ g)
+    → stateOf t n k f places values recent ≡ stateOf u m l g places values recent
+same-state places values recent e =
+    λ i. record { taken = e .0 i; node = e .1 i; minima = e .2 i; first = e .3 i; places = places; values = values; recent = recent }

@@ -1,6 +1,6 @@
 // The entry of the stream search, and the check of a state that a caller hands in. Document 01: A
 // ladder search; refusals 1 5 15 7 8 9 10. Document 02, 2.2, 2.6 and 2.7.
-ghost use Rattle.lists.specs.Prelude.{_≡_, cond, _||_, [], _*_, _≤_, eqb, leb, ltb};
+ghost use Rattle.lists.specs.Prelude.{_≡_, cond, _||_, [], _*_, _≤_, eqb, leb, ltb, length};
 ghost use Rattle.answers.specs.Told.{number, toldStreamed};
 ghost use Rattle.pattern_set.specs.PatternSet.{patternsOf};
 ghost use Rattle.entries.specs.Entries.{firstMet, searchConditions, streamEntry, streamRises, streamState, told, after};
@@ -117,63 +117,83 @@ fn answer_of(counts: Counts, n: usize) -> StreamAnswer
     StreamAnswer::Full(counts)
 }
 
-// A refused call hands the state back.
-fn refused(given: SearchState, r: Refusal) -> Streamed
-    ensures { λ s. ⌜ (s .state ≡ given) × (toldStreamed (s .answer) ≡ (number r, (0, 0, 0, 0))) ⌝ }
+// The numbers of the state that a call hands back, whose arrays are lent, and the answer.
+pub struct Searched {
+    taken: u32,
+    node: u32,
+    minima: u32,
+    first: u32,
+    answer: StreamAnswer,
+}
+
+// A refused call leaves the state as it is.
+fn refused(taken: u32, node: u32, minima: u32, first: u32, r: Refusal) -> Searched
+    ensures { λ s. ⌜ (s .taken ≡ taken) × (s .node ≡ node) × (s .minima ≡ minima) × (s .first ≡ first) ⌝ }
+    ensures { λ s. ⌜ toldStreamed (s .answer) ≡ (number r, (0, 0, 0, 0)) ⌝ }
 {
-    Streamed {
-        state: given,
+    Searched {
+        taken,
+        node,
+        minima,
+        first,
         answer: StreamAnswer::Refused(r),
     }
 }
 
-// Searches on from a state, over the k patterns of a set and the count nodes of its automaton. The
-// arrays of the state are copied once before the values are taken and once into what is handed
-// back.
+// Searches on from the state that the parts make, over the k patterns of a set and the count nodes
+// of its automaton.
 fn search_on(
     set: &[u32],
     automaton: &[u32],
     k: usize,
     count: usize,
-    state: SearchState,
+    taken: u32,
+    node: u32,
+    minima: u32,
+    first: u32,
+    places: &mut [u32; 256],
+    heights: &mut [i32; 256],
+    recent: &mut [i32; 256],
     values: &[i32],
     hits: &mut [u32],
     rises: &mut [i32],
-) -> Streamed
+) -> Searched
     requires { ⌜ Whole (now set) (now automaton) k count × (firstMet (searchConditions (now set) (now automaton)) ≡ 0) ⌝ }
-    ensures { λ r. ⌜ toldStreamed (r .answer) ≡ told (0, 0, 0, 0)
-        (streamEntry (now (set .entry)) (now (automaton .entry)) state (now (values .entry)) (now (hits .entry)) (now (rises .entry))) ⌝ }
-    ensures { λ r. ⌜ r .state
-        ≡ streamState (now (set .entry)) (now (automaton .entry)) state (now (values .entry)) (now (hits .entry)) (now (rises .entry)) ⌝ }
-    ensures { λ _. ⌜ now (hits .exit) ≡ after (streamEntry (now (set .entry)) (now (automaton .entry)) state (now (values .entry))
-        (now (hits .entry)) (now (rises .entry))) (now (hits .entry)) ⌝ }
-    ensures { λ _. ⌜ now (rises .exit) ≡ after (streamRises (now (set .entry)) (now (automaton .entry)) state (now (values .entry))
-        (now (hits .entry)) (now (rises .entry))) (now (rises .entry)) ⌝ }
+    requires { ⌜ (length (now places) ≡ 256) × (length (now heights) ≡ 256) ⌝ }
+    ensures { λ r. ⌜ toldStreamed (r .answer) ≡ told (0, 0, 0, 0) (streamEntry (now (set .entry)) (now (automaton .entry))
+        (stateOf taken node minima first (now (places .entry)) (now (heights .entry)) (now (recent .entry)))
+        (now (values .entry)) (now (hits .entry)) (now (rises .entry))) ⌝ }
+    ensures { λ r. ⌜ stateOf (r .taken) (r .node) (r .minima) (r .first) (now (places .exit)) (now (heights .exit)) (now (recent .exit))
+        ≡ streamState (now (set .entry)) (now (automaton .entry))
+        (stateOf taken node minima first (now (places .entry)) (now (heights .entry)) (now (recent .entry)))
+        (now (values .entry)) (now (hits .entry)) (now (rises .entry)) ⌝ }
+    ensures { λ _. ⌜ now (hits .exit) ≡ after (streamEntry (now (set .entry)) (now (automaton .entry))
+        (stateOf taken node minima first (now (places .entry)) (now (heights .entry)) (now (recent .entry)))
+        (now (values .entry)) (now (hits .entry)) (now (rises .entry))) (now (hits .entry)) ⌝ }
+    ensures { λ _. ⌜ now (rises .exit) ≡ after (streamRises (now (set .entry)) (now (automaton .entry))
+        (stateOf taken node minima first (now (places .entry)) (now (heights .entry)) (now (recent .entry)))
+        (now (values .entry)) (now (hits .entry)) (now (rises .entry))) (now (rises .entry)) ⌝ }
 {
-    let mut places = state.places;
-    let mut heights = state.values;
-    let mut recent = state.recent;
-    let taken = state.taken;
     if !state_is_good(
         set,
         automaton,
         k,
         count,
         taken,
-        state.node,
-        state.minima,
-        state.first,
-        &places,
-        &heights,
-        &recent,
+        node,
+        minima,
+        first,
+        places,
+        heights,
+        recent,
     ) {
-        return refused(state, Refusal::BrokenState);
+        return refused(taken, node, minima, first, Refusal::BrokenState);
     }
     if values.len() > SearchState::LONGEST - taken as usize {
-        return refused(state, Refusal::TextTooLong);
+        return refused(taken, node, minima, first, Refusal::TextTooLong);
     }
     if are_short(k, hits.len(), rises.len()) {
-        return refused(state, Refusal::ArrayTooShort);
+        return refused(taken, node, minima, first, Refusal::ArrayTooShort);
     }
     let left = stream_call::search_values(
         set,
@@ -181,33 +201,80 @@ fn search_on(
         k,
         count,
         taken,
-        state.node,
-        state.minima,
-        state.first,
-        &mut places,
-        &mut heights,
-        &mut recent,
+        node,
+        minima,
+        first,
+        places,
+        heights,
+        recent,
         values,
         hits,
         rises,
     );
     let counts = left.counts;
-    Streamed {
-        state: SearchState {
-            taken: left.taken,
-            node: left.node,
-            minima: left.minima,
-            first: left.first,
-            places,
-            values: heights,
-            recent,
-        },
+    Searched {
+        taken: left.taken,
+        node: left.node,
+        minima: left.minima,
+        first: left.first,
         answer: answer_of(counts, values.len()),
     }
 }
 
+// The same, where set and automaton may be refused too.
+fn search_parts(
+    set: &[u32],
+    automaton: &[u32],
+    taken: u32,
+    node: u32,
+    minima: u32,
+    first: u32,
+    places: &mut [u32; 256],
+    heights: &mut [i32; 256],
+    recent: &mut [i32; 256],
+    values: &[i32],
+    hits: &mut [u32],
+    rises: &mut [i32],
+) -> Searched
+    requires { ⌜ (length (now places) ≡ 256) × (length (now heights) ≡ 256) ⌝ }
+    ensures { λ r. ⌜ toldStreamed (r .answer) ≡ told (0, 0, 0, 0) (streamEntry (now (set .entry)) (now (automaton .entry))
+        (stateOf taken node minima first (now (places .entry)) (now (heights .entry)) (now (recent .entry)))
+        (now (values .entry)) (now (hits .entry)) (now (rises .entry))) ⌝ }
+    ensures { λ r. ⌜ stateOf (r .taken) (r .node) (r .minima) (r .first) (now (places .exit)) (now (heights .exit)) (now (recent .exit))
+        ≡ streamState (now (set .entry)) (now (automaton .entry))
+        (stateOf taken node minima first (now (places .entry)) (now (heights .entry)) (now (recent .entry)))
+        (now (values .entry)) (now (hits .entry)) (now (rises .entry)) ⌝ }
+    ensures { λ _. ⌜ now (hits .exit) ≡ after (streamEntry (now (set .entry)) (now (automaton .entry))
+        (stateOf taken node minima first (now (places .entry)) (now (heights .entry)) (now (recent .entry)))
+        (now (values .entry)) (now (hits .entry)) (now (rises .entry))) (now (hits .entry)) ⌝ }
+    ensures { λ _. ⌜ now (rises .exit) ≡ after (streamRises (now (set .entry)) (now (automaton .entry))
+        (stateOf taken node minima first (now (places .entry)) (now (heights .entry)) (now (recent .entry)))
+        (now (values .entry)) (now (hits .entry)) (now (rises .entry))) (now (rises .entry)) ⌝ }
+{
+    match search_check::check_search(set, automaton) {
+        SearchSize::Holds(k, count) => search_on(
+            set,
+            automaton,
+            k,
+            count,
+            taken,
+            node,
+            minima,
+            first,
+            places,
+            heights,
+            recent,
+            values,
+            hits,
+            rises,
+        ),
+        SearchSize::Refused(r) => refused(taken, node, minima, first, r),
+    }
+}
+
 // Searches on from a state: takes the values, writes the hits that end at them and the rises over
-// these, and hands the state back.
+// these, and hands the state back. The arrays of the state are copied once before the values are
+// taken and once into what is handed back.
 pub fn stream_search(
     set: &[u32],
     automaton: &[u32],
@@ -225,10 +292,34 @@ pub fn stream_search(
     ensures { λ _. ⌜ now (rises .exit) ≡ after (streamRises (now (set .entry)) (now (automaton .entry)) state (now (values .entry))
         (now (hits .entry)) (now (rises .entry))) (now (rises .entry)) ⌝ }
 {
-    match search_check::check_search(set, automaton) {
-        SearchSize::Holds(k, count) => {
-            search_on(set, automaton, k, count, state, values, hits, rises)
-        }
-        SearchSize::Refused(r) => refused(state, r),
+    let mut places = state.places;
+    let mut heights = state.values;
+    let mut recent = state.recent;
+    let s = search_parts(
+        set,
+        automaton,
+        state.taken,
+        state.node,
+        state.minima,
+        state.first,
+        &mut places,
+        &mut heights,
+        &mut recent,
+        values,
+        hits,
+        rises,
+    );
+    let answer = s.answer;
+    Streamed {
+        state: SearchState {
+            taken: s.taken,
+            node: s.node,
+            minima: s.minima,
+            first: s.first,
+            places,
+            values: heights,
+            recent,
+        },
+        answer,
     }
 }

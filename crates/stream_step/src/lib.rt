@@ -1,8 +1,8 @@
 // The parts of a step over the words of an automaton that is made whole: where a distance leads
-// from a node, and the hits at the node reached, all or the first. The words of the set lie in
+// from a node, and the hits at the node reached. The words of the set lie in
 // `set`, which is only there for the contracts, k is the number of its patterns and count the
 // number of nodes.
-ghost use Rattle.lists.specs.Prelude.{_≡_, _++_, _*_, _≤_, _<_, eqb, length, getD, drop};
+ghost use Rattle.lists.specs.Prelude.{_≡_, _++_, _*_, _≤_, _<_, length, drop};
 ghost use Rattle.pattern_set.specs.PatternSet.{patternsOf};
 ghost use Rattle.automaton_model.specs.Automaton.{headOf, endingAt, listed};
 ghost use Rattle.automaton_lookup.specs.Made.{Whole};
@@ -83,25 +83,4 @@ pub fn write_hits(
         at = automaton_lookup::output(set, automaton, k, count, link);
     }
     n
-}
-
-// Is no pattern listed at the node: none ends there or on its failure links.
-pub fn lists_none(set: &[u32], automaton: &[u32], k: usize, count: usize, node: usize) -> bool
-    requires { ⌜ Whole (now set) (now automaton) k count ⌝ }
-    requires { ⌜ node < count ⌝ }
-    ensures { λ r. ⌜ r ≡ eqb (length (listed (patternsOf (now (set .entry))) (headOf (patternsOf (now (set .entry))) node))) 0 ⌝ }
-{
-    automaton_lookup::output(set, automaton, k, count, node) == 0
-}
-
-// The first pattern listed at a node that lists some: of those that end at the first node of its
-// chain where some do, the one of the lowest number.
-pub fn first_listed(set: &[u32], automaton: &[u32], k: usize, count: usize, node: usize) -> usize
-    requires { ⌜ Whole (now set) (now automaton) k count ⌝ }
-    requires { ⌜ (node < count) × (0 < length (listed (patternsOf (now set)) (headOf (patternsOf (now set)) node))) ⌝ }
-    ensures { λ r. ⌜ r ≡ getD (listed (patternsOf (now (set .entry))) (headOf (patternsOf (now (set .entry))) node)) 0 0 ⌝ }
-{
-    let at = automaton_lookup::output(set, automaton, k, count, node);
-    let place = automaton_lookup::first_place(set, automaton, k, count, at);
-    automaton_lookup::pattern_in_order(set, automaton, k, count, place)
 }

@@ -1,14 +1,15 @@
 -- `build_in` tests for room; where there is room, the front and the records are written.
-use Rattle.lists.proofs.Prelude.{_≡_, _∙_, ap, _++_, ℕ, take, _+_, _*_, _≤_, _<_, length, drop, arith, needs}
+use Rattle.lists.proofs.Prelude.{_≡_, _∙_, ap, _++_, ℕ, take, _+_, _-_, _*_, _≤_, _<_, length, drop, arith, needs}
 use Rattle.automaton_model.specs.Automaton.{automatonWords}
 use Rattle.automaton_model.proofs.Lengths.{length-automaton}
 use Rattle.pattern_set.specs.PatternSet.{patternsOf}
 use Rattle.pattern_set.proofs.MaySearch.{maySearch-parts}
 use Rattle.set_access.proofs.Laws.{count-le, total-le}
-use Rattle.automaton_records.proofs.Sizes.{nodes-small}
+use Rattle.automaton_rows.proofs.Sizes.{nodes-small}
 use Rattle.entries.specs.Entries.{firstMet, setConditions}
 use Rattle.entries.proofs.Searchable.{set-unmet}
-use Rattle.automaton.proofs.Records.{recordAt, Grown, grown-from, whole-over, length-whole}
+use Rattle.automaton.proofs.Records.{nodeAt, Grown, grown-from, whole-over, length-whole}
+use Rattle.automaton.proofs.Along.{root-there}
 use Rattle.automaton.proofs.Room.{automaton-fits}
 use Rattle.automaton.proofs.Entries.{build-short, build-done}
 use Rattle.automaton.proofs.build_in.Statement.{statement}
@@ -41,7 +42,7 @@ some s = maySearch-parts (patternsOf (s .args .set .now)) (s .pre .1) .1
 room : (c : tie.Else1) → let s = roomy c in length (automatonWords (patternsOf (s .args .set .now))) ≤ length (s .args .out .now)
 room c =
     let s = roomy c in
-    omega (arith, automaton-fits (s .args .set .now) (s .pre .0), s .pre .3, c .if1 .left)
+    omega (arith, automaton-fits (s .args .set .now) (s .pre .0) (some s), s .pre .3, c .if1 .left)
 
 -- no number is large
 sizes : (c : tie.After-write-front) → (roomy (fronted c) .args .k ≤ 64) × (c .write-front .result ≤ 4097)
@@ -61,9 +62,13 @@ front c =
     let d = s .args .out .now in
     let z = some s in
     let w = automatonWords (patternsOf (s .args .set .now)) in
-    let e : 2 * k + 1 ≡ recordAt k 0 = omega arith in
+    let e : 2 * k + 1 ≡ nodeAt k 0 = omega arith in
     grown-from (c .write-front .last .1 .1 .0) 0 (s .pre .0) (s .pre .2) z (omega arith) (room E)
     (c .write-front .ensures .1 ∙ ap (λ (i : ℕ). take i w ++ drop i d) e)
+
+-- there is a node
+rooted : (c : tie.After-write-front) → 0 < c .write-front .result
+rooted c = omega (arith, root-there (front c .made), c .write-front .ensures .0)
 
 -- the array at the end
 written : (c : tie.After-write-records) →
@@ -107,21 +112,25 @@ write-records-requires c κs =
 mul-t6 : tie.Need-mul-t6
 mul-t6 c =
     let s = sizes (recorded (c .before .before)) in
+    let z = rooted (recorded (c .before .before)) in
     search needs
 
-add-t7 : tie.Need-add-t7
-add-t7 c =
+mul-t7 : tie.Need-mul-t7
+mul-t7 c =
     let s = sizes (recorded (c .before .before)) in
+    let z = rooted (recorded (c .before .before)) in
     search needs
 
-mul-t8 : tie.Need-mul-t8
-mul-t8 c =
+add-t8 : tie.Need-add-t8
+add-t8 c =
     let s = sizes (recorded (c .before .before)) in
+    let z = rooted (recorded (c .before .before)) in
     search needs
 
-add-t16 : tie.Need-add-t16
-add-t16 c =
+sub-t16 : tie.Need-sub-t16
+sub-t16 c =
     let s = sizes (recorded (c .before .before)) in
+    let z = rooted (recorded (c .before .before)) in
     search needs
 
 same-length : tie.Need-same-length
@@ -138,9 +147,9 @@ returns-2 c =
     let E = fronted w in
     let s = roomy E in
     let n = w .write-front .result in
-    build-done (s .args .set .now) (s .args .out .now) (unmet s) (omega (arith, E .if1 .left, s .pre .3)) n (2 * s .args .k + 1 + 8 * n)
+    build-done (s .args .set .now) (s .args .out .now) (unmet s) (omega (arith, E .if1 .left, s .pre .3)) n (2 * s .args .k + 16 * n - 7)
     (r .write-records .last .1 .1 .1 .0) (w .write-front .ensures .0)
-    (omega (arith, length-automaton (patternsOf (s .args .set .now)), s .pre .2, w .write-front .ensures .0)) (written r)
+    (omega (arith, length-automaton (patternsOf (s .args .set .now)), s .pre .2, w .write-front .ensures .0, rooted w)) (written r)
 
 pub build-in-spec : {M : Type 1} → statement M
 build-in-spec =
@@ -152,8 +161,8 @@ build-in-spec =
     write-front-requires
     write-records-requires
     mul-t6
-    add-t7
-    mul-t8
-    add-t16
+    mul-t7
+    add-t8
+    sub-t16
     same-length
     returns-2)

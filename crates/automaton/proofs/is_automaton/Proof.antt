@@ -1,12 +1,14 @@
 -- `is_automaton` meets its contract: with the front the number of nodes is known, so that the
 -- length can be tested, and then the records.
-use Rattle.lists.proofs.Prelude.{_≡_, _∙_, sym, _+_, _*_, _≤_, length, take, arith, not-false, not-true, needs}
+use Rattle.lists.proofs.Prelude.{_≡_, _∙_, sym, _+_, _*_, _<_, _≤_, length, take, arith, not-false, not-true, needs}
 use Rattle.lists.proofs.Same.{true-same}
 use Rattle.automaton_model.specs.Automaton.{nodes, automatonWords}
 use Rattle.automaton_model.proofs.Lengths.{length-automaton}
 use Rattle.pattern_set.specs.PatternSet.{patternsOf}
+use Rattle.pattern_set.proofs.IsSet.{set-good}
+use Rattle.automaton_model.proofs.Nodes.{node-root}
 use Rattle.set_access.proofs.Laws.{count-le}
-use Rattle.automaton_records.proofs.Sizes.{nodes-small}
+use Rattle.automaton_rows.proofs.Sizes.{nodes-small}
 use Rattle.automaton.proofs.Entries.{front-differs, words-short, front-fits, front-count, front-made}
 use Rattle.automaton.proofs.is_automaton.Statement.{statement}
 use Rattle.automaton.proofs.is_automaton.Tie as tie
@@ -42,6 +44,12 @@ few : (c : tie.After-wide) → c .wide .result ≤ 4097
 few c =
     let s = counted (tested (c .before .before)) in
     omega (arith, nodes-small (s .args .set .now) (s .pre .0), nodes-known c)
+
+-- there is a node
+rooted : (c : tie.After-wide) → 0 < c .wide .result
+rooted c =
+    let s = counted (tested (c .before .before)) in
+    omega (arith, nodes-known c, node-root (patternsOf (s .args .set .now)) (set-good (s .args .set .now) (s .pre .0)) (s .pre .1) .2)
 
 pattern-count-requires : tie.Need-pattern-count-requires
 pattern-count-requires c κs = c .before .before .pre .0
@@ -80,22 +88,29 @@ wide-requires c κs = search needs
 mul-if2 : tie.Need-mul-if2
 mul-if2 c =
     let h = sizes (c .before .before .before .before) in
+    let n = few c in
+    let z = rooted c in
+    search needs
+
+mul-if2-2 : tie.Need-mul-if2-2
+mul-if2-2 c =
+    let h = sizes (c .before .before .before .before) in
+    let n = few c in
+    let z = rooted c in
     search needs
 
 add-if2 : tie.Need-add-if2
 add-if2 c =
     let h = sizes (c .before .before .before .before) in
-    search needs
-
-mul-if2-2 : tie.Need-mul-if2-2
-mul-if2-2 c =
     let n = few c in
+    let z = rooted c in
     search needs
 
-add-if2-2 : tie.Need-add-if2-2
-add-if2-2 c =
+sub-if2 : tie.Need-sub-if2
+sub-if2 c =
     let h = sizes (c .before .before .before .before) in
     let n = few c in
+    let z = rooted c in
     search needs
 
 returns-2 : tie.Need-returns-2
@@ -104,7 +119,7 @@ returns-2 c =
     let s = counted k in
     sym
     (words-short (patternsOf (s .args .set .now)) (s .args .words .now)
-    (omega (arith, c .if2 .taken, length-automaton (patternsOf (s .args .set .now)), nodes-known (c .before), k .pattern-count .ensures)))
+    (omega (arith, c .if2 .taken, length-automaton (patternsOf (s .args .set .now)), nodes-known (c .before), rooted (c .before), k .pattern-count .ensures)))
 
 are-records-requires : tie.Need-are-records-requires
 are-records-requires c κs =
@@ -112,7 +127,8 @@ are-records-requires c κs =
     let k = tested E in
     let s = counted k in (
       front-made (s .args .set .now) (s .args .words .now) (s .pre .0) (s .pre .1) (k .pattern-count .result) (k .pattern-count .ensures) (front E)
-          (omega (arith, c .if2 .left, length-automaton (patternsOf (s .args .set .now)), nodes-known (c .before), k .pattern-count .ensures)),
+          (omega
+          (arith, c .if2 .left, length-automaton (patternsOf (s .args .set .now)), nodes-known (c .before), rooted (c .before), k .pattern-count .ensures)),
       nodes-known (c .before),
     )
 
@@ -131,9 +147,9 @@ is-automaton-spec =
     shared-slice-read-wide
     wide-requires
     mul-if2
-    add-if2
     mul-if2-2
-    add-if2-2
+    add-if2
+    sub-if2
     returns-2
     are-records-requires
     returns-3)

@@ -3,7 +3,7 @@ use Rattle.lists.proofs.Prelude.{arith, needs}
 use Rattle.pattern_set.specs.PatternSet.{patternsOf}
 use Rattle.automaton_lookup.proofs.Words.{made-good}
 use Rattle.automaton_model.proofs.Children.{children-within}
-use Rattle.automaton_records.proofs.Sizes.{nodes-small}
+use Rattle.automaton_rows.proofs.Sizes.{nodes-small}
 use Rattle.automaton_records.proofs.children_end.Statement.{statement}
 use Rattle.automaton_records.proofs.children_end.Tie as tie
 

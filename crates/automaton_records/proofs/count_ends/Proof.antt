@@ -5,8 +5,8 @@ use Rattle.lists.proofs.Prelude.{_≡_, _∙_, ap, [], ℕ, _+_, _-_, _≤_, le
 use Rattle.pattern_set.specs.PatternSet.{patternsOf}
 use Rattle.automaton_model.specs.Automaton.{headOf, endsAt}
 use Rattle.automaton_model.proofs.Order.{order-lt, patternAt}
-use Rattle.automaton_records.proofs.Intervals.{ends-le-begins, ends-more, ends-stop}
-use Rattle.automaton_records.proofs.Sizes.{node-some}
+use Rattle.automaton_rows.proofs.Intervals.{ends-le-begins, ends-more, ends-stop}
+use Rattle.automaton_rows.proofs.Sizes.{node-some}
 use Rattle.automaton_records.proofs.count_ends.Statement.{statement}
 use Rattle.automaton_records.proofs.count_ends.Tie as tie
 

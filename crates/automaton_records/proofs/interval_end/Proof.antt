@@ -5,8 +5,8 @@ use Rattle.lists.proofs.Prelude.{_-_, _≤_, _<_, arith, needs}
 use Rattle.pattern_set.specs.PatternSet.{patternsOf}
 use Rattle.automaton_model.specs.Automaton.{headOf}
 use Rattle.automaton_lookup.specs.Places.{endOf}
-use Rattle.automaton_records.proofs.Shared.{interval-more, interval-stops, interval-last}
-use Rattle.automaton_records.proofs.Sizes.{node-some}
+use Rattle.automaton_rows.proofs.Shared.{interval-more, interval-stops, interval-last}
+use Rattle.automaton_rows.proofs.Sizes.{node-some}
 use Rattle.automaton_records.proofs.interval_end.Statement.{statement}
 use Rattle.automaton_records.proofs.interval_end.Tie as tie
 

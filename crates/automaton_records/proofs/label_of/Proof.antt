@@ -6,7 +6,7 @@ use Rattle.automaton_lookup.proofs.Words.{made-good}
 use Rattle.automaton_model.proofs.Nodes.{node-head, node-longer}
 use Rattle.automaton_model.proofs.Order.{order-lt, patternAt}
 use Rattle.automaton_lookup.specs.Places.{placeOf}
-use Rattle.automaton_records.proofs.Intervals.{label-at, first-place-length}
+use Rattle.automaton_rows.proofs.Intervals.{label-at, first-place-length}
 use Rattle.automaton_records.proofs.label_of.Statement.{statement}
 use Rattle.automaton_records.proofs.label_of.Tie as tie
 

@@ -11,7 +11,7 @@ use Rattle.automaton_lookup.proofs.Words.{made-good}
 use Rattle.automaton_lookup.proofs.Places.{ends-within}
 use Rattle.automaton_records.proofs.Parents.{Child, parent-below, child-depth, child-label}
 use Rattle.automaton_records.proofs.Links.{failure-below}
-use Rattle.automaton_records.proofs.Sizes.{nodes-small, depth-small, places-small}
+use Rattle.automaton_rows.proofs.Sizes.{nodes-small, depth-small, places-small}
 use Rattle.automaton_records.proofs.Records.{record-is}
 use Rattle.automaton_records.proofs.make_record.Statement.{statement}
 use Rattle.automaton_records.proofs.make_record.Tie as tie
@@ -59,7 +59,7 @@ add-depth c =
 label-of-requires : tie.Need-label-of-requires
 label-of-requires c κs =
     let s = c .before .before .before in
-    (s .pre .0, (s .pre .1 .0, (s .pre .1 .1 .1, depth-known c)))
+    (s .pre .0, (s .pre .1 .0, (s .pre .1 .1 .1 .0, depth-known c)))
 
 failure-of-requires : tie.Need-failure-of-requires
 failure-of-requires c κs =
@@ -74,13 +74,13 @@ interval-end-requires : tie.Need-interval-end-requires
 interval-end-requires c κs =
     let d = c .before .before in
     let s = d .before .before .before in
-    (s .pre .0, (s .pre .1 .0 .1, (s .pre .1 .1 .1, depth-known d)))
+    (s .pre .0, (s .pre .1 .0 .1, (s .pre .1 .1 .1 .0, depth-known d)))
 
 count-ends-requires : tie.Need-count-ends-requires
 count-ends-requires c κs =
     let d = c .before .before .before in
     let s = d .before .before .before in
-    (s .pre .0, (s .pre .1 .0 .1, ((s .pre .1 .1 .1, depth-known d), c .interval-end .ensures)))
+    (s .pre .0, (s .pre .1 .0 .1, ((s .pre .1 .1 .1 .0, depth-known d), c .interval-end .ensures)))
 
 output-of-requires : tie.Need-output-of-requires
 output-of-requires c κs =
@@ -97,25 +97,32 @@ children-end-requires c κs =
     let s = f .before .before .before .before .before in
     (s .pre .0, omega (arith, s .pre .1 .0 .0))
 
-add-count-children : tie.Need-add-count-children
-add-count-children c =
+add-from : tie.Need-add-from
+add-from c =
     let f = c .before .before .before .before in
     let s = f .before .before .before .before .before in
     let ps = patternsOf (s .args .set .now) in
     let w = ends-within ps (headOf ps (s .args .n)) in
     search needs
 
-count-children-requires : tie.Need-count-children-requires
-count-children-requires c κs =
-    let q = c .before .before in
+make-row-requires : tie.Need-make-row-requires
+make-row-requires c κs =
+    let e = c .before in
+    let q = e .before .before in
     let i = q .before in
-    let d = i .before .before .before in
+    let f = i .before in
+    let d = f .before .before in
     let s = d .before .before .before in
-    (s .pre .0, ((s .pre .1 .0 .1, depth-known d), (omega (arith, q .count-ends .ensures, s .pre .1 .1 .1), i .interval-end .ensures)))
+    let n = s .pre .1 .0 in
+    let first = e .children-end .ensures ∙ firstChild-next (patternsOf (s .args .set .now)) (s .args .n) (n .0) in
+    let place = s .pre .1 .1 .1 in (
+      s .pre .0,
+      ((n .0, n .1, depth-known d), (link-known f, (omega (arith, q .count-ends .ensures, place .0), (first, i .interval-end .ensures, place .1)))),
+    )
 
 record-from-requires : tie.Need-record-from-requires
 record-from-requires c κs =
-    let e = c .before in
+    let e = c .before .before in
     let o = e .before in
     let q = o .before in
     let f = q .before .before in
@@ -136,16 +143,16 @@ record-from-requires c κs =
     let next = firstChild-next ps n (s .pre .1 .0 .0) in
     let within = children-within ps g z n h in
     let first : e .children-end .result ≤ 4097 = omega (arith, e .children-end .ensures) in
-    let count : c .count-children .result ≤ 4097 = omega (arith, c .count-children .ensures) in
+    let count : c .make-row .result ≤ 4097 = omega (arith, c .make-row .ensures .0) in
     let places = places-small ws (s .pre .0 .isSet) n in
-    let place : s .args .place ≤ 4097 = omega (arith, places .0, s .pre .1 .1 .1) in
+    let place : s .args .place ≤ 4097 = omega (arith, places .0, s .pre .1 .1 .1 .0) in
     let ends : q .count-ends .result ≤ 4097 = omega (arith, places .1, q .count-ends .ensures) in
     (omega arith, omega arith, output, first, count, place, ends)
 
 returns : tie.Need-returns
 returns c =
     let r = c .before in
-    let e = r .before in
+    let e = r .before .before in
     let o = e .before in
     let q = o .before in
     let i = q .before in
@@ -157,10 +164,10 @@ returns c =
     let n = s .args .n in (
       c .record-from .ensures
           ∙ record-is ps n (d .depth .result + 1) (l .label-of .result) (f .failure-of .result) (o .output-of .result) (e .children-end .result)
-          (r .count-children .result) (s .args .place) (q .count-ends .result)
+          (r .make-row .result) (s .args .place) (q .count-ends .result)
           (depth-known d) (l .label-of .ensures) (link-known f) (o .output-of .ensures) (e .children-end .ensures ∙ firstChild-next ps n (s .pre .1 .0 .0))
-          (r .count-children .ensures) (s .pre .1 .1 .1) (q .count-ends .ensures),
-      i .interval-end .ensures,
+          (r .make-row .ensures .0) (s .pre .1 .1 .1 .0) (q .count-ends .ensures),
+      (i .interval-end .ensures, r .make-row .ensures .1),
     )
 
 pub make-record-spec : {M : Type 1} → statement M
@@ -176,7 +183,7 @@ make-record-spec =
     output-of-requires
     sub-children-end
     children-end-requires
-    add-count-children
-    count-children-requires
+    add-from
+    make-row-requires
     record-from-requires
     returns)

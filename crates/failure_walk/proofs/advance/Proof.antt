@@ -1,12 +1,12 @@
 -- `advance` meets its contract: the step from the node given is always that from the present node,
--- with the attempts that missed so far (`Walk`). The measure is the present node's number: the
--- failure links lead to smaller ones.
+-- with the attempts that missed so far (`Walk`), and where its row has the rest of the way the walk
+-- ends. The measure is the present node's number: the failure links lead to smaller ones.
 use Rattle.lists.proofs.Prelude.{_≡_, _∙_, ap, _+_, _<_, length, arith, needs}
 use Rattle.pattern_set.specs.PatternSet.{patternsOf}
 use Rattle.automaton_model.specs.Automaton.{nodes}
 use Rattle.automaton_lookup.specs.Made.{childOf}
 use Rattle.automaton_lookup.proofs.Words.{made-good}
-use Rattle.failure_walk.proofs.Walk.{Walk, labelFor, walk-start, walk-children, walk-on, walk-end}
+use Rattle.failure_walk.proofs.Walk.{Walk, labelFor, walk-start, walk-children, walk-on, walk-end, walk-row}
 use Rattle.failure_walk.proofs.advance.Statement.{statement}
 use Rattle.failure_walk.proofs.advance.Tie as tie
 
@@ -29,11 +29,36 @@ loop-holds c =
 label-for-requires : tie.Need-label-for-requires Inv-loop μ-loop
 label-for-requires c κs = search needs
 
+wide-requires : tie.Need-wide-requires Inv-loop μ-loop
+wide-requires c κs = search needs
+
+near-step-requires : tie.Need-near-step-requires Inv-loop μ-loop
+near-step-requires c κs =
+    let L = c .before .before .before .loop in
+    search needs
+
+step-of-requires : tie.Need-step-of-requires Inv-loop μ-loop
+step-of-requires c κs =
+    let L = c .before .before .before .before .loop in
+    omega (arith, L .inv .small)
+
+returns : tie.Need-returns Inv-loop μ-loop
+returns c =
+    let n = c .before in
+    let l = n .before .before .before in
+    let L = l .before .loop in
+    let s = l .before .before .before .before in
+    let m = s .pre .0 in
+    let r =
+    walk-row (patternsOf (s .args .set .now)) (made-good m) (m .filled) (s .args .node) (s .args .distance) (within s) (L .at) (L .missed)
+    (n .near-step .result) (L .inv) (n .before .wide .result) (n .before .wide .ensures ∙ l .label-for .ensures) (n .near-step .ensures) in
+    record { node = c .step-of .ensures .0 ∙ r .node; attempts = c .step-of .ensures .1 ∙ r .attempts }
+
 child-requires : tie.Need-child-requires Inv-loop μ-loop
 child-requires c κs =
-    let s = c .before .before .before .before in
-    let m = s .pre .0 in
-    let L = c .before .loop in (
+    let L = c .before .before .loop in
+    let s = c .before .before .before .before .before in
+    let m = s .pre .0 in (
       m,
       (
         omega (arith, L .inv .within, s .pre .1 .0),
@@ -45,24 +70,26 @@ child-requires c κs =
 
 -- what the look-up tells
 looked : (c : tie.After-child Inv-loop μ-loop) →
-    let s = c .before .before .before .before .before in
+    let l = c .before .before in
+    let s = l .before .before .before .before in
     let ps = patternsOf (s .args .set .now) in
-    let L = c .before .before .loop in
+    let L = l .before .loop in
     c .child .result ≡ childOf ps (L .at) (labelFor ps (L .at) (s .args .distance))
 looked c =
-    let s = c .before .before .before .before .before in
-    c .child .ensures ∙ ap (childOf (patternsOf (s .args .set .now)) (c .before .before .loop .at)) (c .before .label-for .ensures)
+    let l = c .before .before in
+    let s = l .before .before .before .before in
+    c .child .ensures ∙ ap (childOf (patternsOf (s .args .set .now)) (l .before .loop .at)) (l .label-for .ensures)
 
-add-t12 : tie.Need-add-t12 Inv-loop μ-loop
-add-t12 c = search needs
+add-t14 : tie.Need-add-t14 Inv-loop μ-loop
+add-t14 c = search needs
 
-returns : tie.Need-returns Inv-loop μ-loop
-returns c =
-    let s = c .before .before .before .before .before .before in
+returns-2 : tie.Need-returns-2 Inv-loop μ-loop
+returns-2 c =
+    let L = c .before .before .before .before .loop in
+    let s = c .before .before .before .before .before .before .before in
     let m = s .pre .0 in
-    let L = c .before .before .before .loop in
     walk-end (patternsOf (s .args .set .now)) (made-good m) (m .filled) (s .args .node) (s .args .distance) (within s) (L .at) (L .missed)
-    (c .before .child .result) (L .inv) (looked (c .before)) (c .if1 .taken)
+    (c .before .child .result) (L .inv) (looked (c .before)) (c .if2 .taken)
 
 add-missed : tie.Need-add-missed Inv-loop μ-loop
 add-missed c = search needs
@@ -72,15 +99,15 @@ failure-requires c κs = search needs
 
 -- the walk after the failure link
 linked : (c : tie.After-failure Inv-loop μ-loop) →
-    let s = c .before .before .before .before .before .before .before in
-    let L = c .before .before .before .before .loop in
+    let L = c .before .before .before .before .before .loop in
+    let s = c .before .before .before .before .before .before .before .before in
     Walk (patternsOf (s .args .set .now)) (s .args .node) (s .args .distance) (c .failure .result) (L .missed + 1) × (c .failure .result < L .at)
 linked c =
-    let s = c .before .before .before .before .before .before .before in
+    let L = c .before .before .before .before .before .loop in
+    let s = c .before .before .before .before .before .before .before .before in
     let m = s .pre .0 in
-    let L = c .before .before .before .before .loop in
     walk-on (patternsOf (s .args .set .now)) (made-good m) (m .filled) (s .args .node) (s .args .distance) (within s) (L .at) (L .missed)
-    (c .before .before .child .result) (c .failure .result) (L .inv) (looked (c .before .before)) (c .before .if1 .left) (c .failure .ensures)
+    (c .before .before .child .result) (c .failure .result) (L .inv) (looked (c .before .before)) (c .before .if2 .left) (c .failure .ensures)
 
 loop-less : tie.Need-loop-less Inv-loop μ-loop
 loop-less c = linked c .1
@@ -96,9 +123,13 @@ advance-spec =
     μ-loop
     loop-holds
     label-for-requires
-    child-requires
-    add-t12
+    wide-requires
+    near-step-requires
+    step-of-requires
     returns
+    child-requires
+    add-t14
+    returns-2
     add-missed
     failure-requires
     loop-less

@@ -17,9 +17,9 @@ same-length-2 c = search needs
 
 returns : tie.Need-returns
 returns c =
-    let d = c .before .before .before .before .before .stream-search .ensures in
-    let w = c .streamed .ensures in
-    (w .0 ∙ d .0, (w .1 ∙ d .1 .0, d .1 .1))
+    let told = c .before in
+    let d = told .before .before .before .before .stream-search .ensures in
+    (told .streamed .ensures ∙ d .0, d .1)
 
 pub finder-stream-search-spec : {M : Type 1} → statement M
 finder-stream-search-spec =

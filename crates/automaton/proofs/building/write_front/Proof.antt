@@ -4,7 +4,7 @@ use Rattle.lists.proofs.Prelude.{_≡_, _∙_, _+_, _*_, _≤_, length, length-
 use Rattle.automaton_model.proofs.Lengths.{length-automaton}
 use Rattle.pattern_set.specs.PatternSet.{patternsOf}
 use Rattle.set_access.proofs.Laws.{count-le}
-use Rattle.automaton_records.proofs.Sizes.{nodes-small}
+use Rattle.automaton_rows.proofs.Sizes.{nodes-small}
 use Rattle.automaton.proofs.Front.{order-there, length-ordered, order-kept, shared-there, length-shared, front-stored}
 use Rattle.automaton.proofs.building.write_front.Statement.{statement}
 use Rattle.automaton.proofs.building.write_front.Tie as tie

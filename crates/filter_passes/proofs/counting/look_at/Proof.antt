@@ -11,10 +11,10 @@ use Rattle.filter_passes.proofs.counting.look_at.Tie as tie
 is-marked-requires : tie.Need-is-marked-requires
 is-marked-requires c κs = search needs
 
-hits-at-requires : tie.Need-hits-at-requires
-hits-at-requires c κs =
+hits-among-requires : tie.Need-hits-among-requires
+hits-among-requires c κs =
     let s = c .before .before .before .before .before in
-    (s .pre .0, ((s .pre .1 .0 .0, s .pre .1 .0 .2, s .pre .1 .1 .1 .0), s .pre .1 .1 .0))
+    (s .pre .0, ((s .pre .1 .0 .0, s .pre .1 .0 .2), (s .pre .1 .1 .0, (s .pre .1 .1 .1 .0, s .pre .1 .1 .1 .1 .0))))
 
 mark-if-requires : tie.Need-mark-if-requires
 mark-if-requires c κs = search needs
@@ -23,9 +23,9 @@ returns : tie.Need-returns
 returns c =
     let s = c .before .before .before .before .before .before .before .before in
     let a = s .args in
-    let m = s .pre .1 .1 .1 .1 in (
+    let m = s .pre .1 .1 .1 .1 .1 in (
       marks-next (patternsOf (a .set .now)) (a .text .now) (a .marks .now) (a .p) (set-good (a .set .now) (s .pre .0)) (m .0) _
-          (c .before .before .hits-at .result) (c .before .before .hits-at .ensures) (c .mark-if .ensures),
+          (c .before .before .hits-among .result) (c .before .before .hits-among .ensures) (c .mark-if .ensures),
       c .mark-if .ensures .size
           ∙ m .1,
     )
@@ -34,10 +34,10 @@ returns-2 : tie.Need-returns-2
 returns-2 c =
     let s = c .before .before .before .before .before in
     let a = s .args in
-    let m = s .pre .1 .1 .1 .1 in
+    let m = s .pre .1 .1 .1 .1 .1 in
     let t = T-true (isMarked (a .marks .now) _) (sym (c .before .is-marked .ensures) ∙ not-false _ (c .if1 .left)) in
     (marks-stay (patternsOf (a .set .now)) (a .text .now) (a .marks .now) (a .p) (set-good (a .set .now) (s .pre .0)) (m .0) t, m .1)
 
 pub look-at-spec : {M : Type 1} → statement M
 look-at-spec =
-    tie.close (tie.spec is-marked-requires hits-at-requires mark-if-requires returns returns-2)
+    tie.close (tie.spec is-marked-requires hits-among-requires mark-if-requires returns returns-2)

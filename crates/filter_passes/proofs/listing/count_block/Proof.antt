@@ -12,14 +12,14 @@ use Rattle.filter_passes.proofs.listing.count_block.Statement.{statemen
 use Rattle.filter_passes.proofs.listing.count_block.Tie as tie
 
 abbrev Inv-loop : tie.InvT-loop
-Inv-loop set text first end begin ownlow ownhigh fits numbers parents own₀ since₀ count₀ p₀ own since count p =
+Inv-loop set text first end begin ownlow ownhigh fits numbers equal checks own₀ since₀ count₀ p₀ own since count p =
     (p ≤ end)
     × (own ≡ textFingerprint 17 (take p text))
     × Since text p since
     × (count + length (hitsFrom (patternsOf set) text p (end - p)) ≡ length (hitsFrom (patternsOf set) text first (end - first)))
 
 abbrev μ-loop : tie.MeasureT-loop
-μ-loop set text first end begin ownlow ownhigh fits numbers parents own₀ since₀ count₀ p₀ own since count p = end - p
+μ-loop set text first end begin ownlow ownhigh fits numbers equal checks own₀ since₀ count₀ p₀ own since count p = end - p
 
 fingerprint-before-requires : tie.Need-fingerprint-before-requires Inv-loop μ-loop
 fingerprint-before-requires c κs = search needs

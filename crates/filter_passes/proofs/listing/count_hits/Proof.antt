@@ -11,14 +11,14 @@ use Rattle.filter_passes.proofs.listing.count_hits.Statement.{statement
 use Rattle.filter_passes.proofs.listing.count_hits.Tie as tie
 
 abbrev Inv-loop : tie.InvT-loop
-Inv-loop set text marks ownlow ownhigh fits numbers parents n count₀ begin₀ done₀ first₀ block₀ count begin done first block =
+Inv-loop set text marks ownlow ownhigh fits numbers equal checks n count₀ begin₀ done₀ first₀ block₀ count begin done first block =
     (first ≡ block * 64)
     × (done ≤ first)
     × Since text done begin
     × (count + length (restHits (patternsOf set) text first) ≡ length (restHits (patternsOf set) text 0))
 
 abbrev μ-loop : tie.MeasureT-loop
-μ-loop set text marks ownlow ownhigh fits numbers parents n count₀ begin₀ done₀ first₀ block₀ count begin done first block = n - first
+μ-loop set text marks ownlow ownhigh fits numbers equal checks n count₀ begin₀ done₀ first₀ block₀ count begin done first block = n - first
 
 loop-holds : tie.Need-loop-holds Inv-loop μ-loop
 loop-holds c = (omega arith, omega arith, since-start (c .before .before .args .text .now), omega arith)

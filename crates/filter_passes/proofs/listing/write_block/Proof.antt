@@ -12,14 +12,14 @@ use Rattle.filter_passes.proofs.listing.write_block.Statement.{statemen
 use Rattle.filter_passes.proofs.listing.write_block.Tie as tie
 
 abbrev Inv-loop : tie.InvT-loop
-Inv-loop set text first end begin ownlow ownhigh fits numbers parents out₀ at own₀ since₀ to₀ p₀ out own since to p =
+Inv-loop set text first end begin ownlow ownhigh fits numbers equal checks out₀ at own₀ since₀ to₀ p₀ out own since to p =
     (p ≤ end)
     × (own ≡ textFingerprint 17 (take p text))
     × Since text p since
     × Written out₀ out at to (hitsFrom (patternsOf set) text first (end - first)) (hitsFrom (patternsOf set) text p (end - p))
 
 abbrev μ-loop : tie.MeasureT-loop
-μ-loop set text first end begin ownlow ownhigh fits numbers parents out₀ at own₀ since₀ to₀ p₀ out own since to p = end - p
+μ-loop set text first end begin ownlow ownhigh fits numbers equal checks out₀ at own₀ since₀ to₀ p₀ out own since to p = end - p
 
 fingerprint-before-requires : tie.Need-fingerprint-before-requires Inv-loop μ-loop
 fingerprint-before-requires c κs = search needs

@@ -14,14 +14,14 @@ use Rattle.filter_passes.proofs.listing.write_hits.Statement.{statement
 use Rattle.filter_passes.proofs.listing.write_hits.Tie as tie
 
 abbrev Inv-loop : tie.InvT-loop
-Inv-loop set text marks ownlow ownhigh fits numbers parents out₀ n to₀ begin₀ done₀ first₀ block₀ out to begin done first block =
+Inv-loop set text marks ownlow ownhigh fits numbers equal checks out₀ n to₀ begin₀ done₀ first₀ block₀ out to begin done first block =
     (first ≡ block * 64)
     × (done ≤ first)
     × Since text done begin
     × Written out₀ out 0 to (restHits (patternsOf set) text 0) (restHits (patternsOf set) text first)
 
 abbrev μ-loop : tie.MeasureT-loop
-μ-loop set text marks ownlow ownhigh fits numbers parents out₀ n to₀ begin₀ done₀ first₀ block₀ out to begin done first block = n - first
+μ-loop set text marks ownlow ownhigh fits numbers equal checks out₀ n to₀ begin₀ done₀ first₀ block₀ out to begin done first block = n - first
 
 loop-holds : tie.Need-loop-holds Inv-loop μ-loop
 loop-holds c =

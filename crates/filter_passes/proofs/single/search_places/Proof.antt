@@ -6,7 +6,6 @@ use Rattle.bit_sets.proofs.Laws.{size-le}
 use Rattle.pattern_set.specs.PatternSet.{patternsOf}
 use Rattle.pattern_set.proofs.IsSet.{set-good}
 use Rattle.filter_plan.specs.Plan.{textFingerprint}
-use Rattle.filter_plan.proofs.Fingerprints.{textFingerprint-bytes}
 use Rattle.filter_windows.specs.Looks.{Since, SetOf, Looked}
 use Rattle.filter_windows.proofs.Samples.{since-sample}
 use Rattle.filter_windows.proofs.Lookups.{set-fingerprint-length, own-fingerprint-lt, looked-fitting, looked-none, looked-candidates}
@@ -19,11 +18,12 @@ use Rattle.filter_passes.proofs.single.search_places.Statement.{stateme
 use Rattle.filter_passes.proofs.single.search_places.Tie as tie
 
 abbrev Inv-loop : tie.InvT-loop
-Inv-loop set text setlow sethigh ownlow ownhigh fits numbers parents out₀ b n fingerprint₀ own₀ begin₀ count₀ to₀ p₀ out fingerprint own begin count to p =
-    Scan (patternsOf set) text b p fingerprint own begin count × Written out₀ out 0 to (restHits (patternsOf set) text 0) (restHits (patternsOf set) text p)
+Inv-loop set text setlow sethigh ownlow ownhigh fits numbers equal checks out₀ b n own₀ begin₀ count₀ to₀ p₀ out own begin count to p =
+    Scan (patternsOf set) text p own begin count × Written out₀ out 0 to (restHits (patternsOf set) text 0) (restHits (patternsOf set) text p)
 
 abbrev μ-loop : tie.MeasureT-loop
-μ-loop set text setlow sethigh ownlow ownhigh fits numbers parents out₀ b n fingerprint₀ own₀ begin₀ count₀ to₀ p₀ out fingerprint own begin count to p = n - p
+μ-loop set text setlow sethigh ownlow ownhigh fits numbers equal checks out₀ b n own₀ begin₀ count₀ to₀ p₀ out own begin count to p =
+    n - p
 
 -- the set fingerprint is of 1 to 17 values
 b-length : (c : tie.After-shortest-length Inv-loop μ-loop) → (1 ≤ c .shortest-length .result) × (c .shortest-length .result ≤ 17)
@@ -44,51 +44,61 @@ begun c =
     since-sample text (L .p) (L .begin) (t .loop-test .taken) (sym (g .is-gap .ensures) ∙ c .if1 .left) (L .inv .0 .since)
 
 -- what the tables have for the set fingerprint and for the samples up to place p are its candidates
-here : (c : tie.Else1 Inv-loop μ-loop) (found : ℕ) →
-    let L = c .before .before .before in
+here : (c : tie.After-set-fingerprint Inv-loop μ-loop) (found : ℕ) →
+    let L = c .before .before .before .before in
     let a = L .before .before .before .before .before .args in
     let ps = patternsOf (a .set .now) in
-    Looked (a .setlow .now) (a .sethigh .now) (a .fits .now) (L .loop .fingerprint) (L .loop .p + 1 - L .loop .begin) found
+    Looked (a .setlow .now) (a .sethigh .now) (a .fits .now) (c .set-fingerprint .result) (L .loop .p + 1 - L .loop .begin) found
     → SetOf ps (isCandidate (shortest 17 ps) (take (suc (L .loop .p)) (a .text .now))) found
 here c found looked =
-    let t = c .before .before in
+    let t = c .before .before .before in
     let L = t .before .loop in
     let b = t .before .before in
     let s = b .before .before .before .before in
     let a = s .args in
     looked-candidates (patternsOf (a .set .now)) (a .text .now) (L .p) (L .begin) (L .p + 1 - L .begin) (set-good (a .set .now) (s .pre .0))
-    (t .loop-test .taken) (begun c) (omega arith)
-    (a .setlow .now) (a .sethigh .now) (a .fits .now) (L .fingerprint) (b .shortest-length .result) found
-    (s .pre .1 .1 .0) (b .shortest-length .ensures) (L .inv .0 .ofSet (t .loop-test .taken)) looked
+    (t .loop-test .taken) (begun (c .before)) (omega arith)
+    (a .setlow .now) (a .sethigh .now) (a .fits .now) (c .set-fingerprint .result) (b .shortest-length .result) found
+    (s .pre .1 .1 .0) (b .shortest-length .ensures)
+    (c .set-fingerprint .ensures .1 (take (suc (L .p)) (a .text .now)) (L .inv .0 .ofOwn (t .loop-test .taken))) looked
 
--- the fingerprints are of 16 bits
-small : (c : tie.In-loop Inv-loop μ-loop) → (c .before .loop .fingerprint < 65536) × (c .before .loop .own < 65536)
+-- those that fit are its candidates
+found : (c : tie.After-fitting Inv-loop μ-loop) →
+    let L = c .before .before .before .before .before .before .before in
+    let a = L .before .before .before .before .before .args in
+    let ps = patternsOf (a .set .now) in
+    SetOf ps (isCandidate (shortest 17 ps) (take (suc (L .loop .p)) (a .text .now))) (c .fitting .result)
+found c =
+    let k = c .before .before in
+    let f = k .before in
+    let L = f .before .before .before .before .loop in
+    let a = f .before .before .before .before .before .before .before .before .before .args in
+    here f (c .fitting .result)
+    (looked-fitting (a .setlow .now) (a .sethigh .now) (a .fits .now) (f .set-fingerprint .result) (L .p + 1 - L .begin)
+    (k .by-set-fingerprint .result) (k .by-set-fingerprint .ensures) (c .fitting .result) (c .fitting .ensures))
+
+-- the fingerprint is of 16 bits
+small : (c : tie.In-loop Inv-loop μ-loop) → c .before .loop .own < 65536
 small c =
     let L = c .before .loop in
-    let b = c .before .before in
-    let l = b-length b in
-    let front = take (suc (L .p)) (b .before .before .before .before .args .text .now) in (
-      omega (arith, L .inv .0 .ofSet (c .loop-test .taken), textFingerprint-bytes (b .shortest-length .result) front (l .0) (l .1)),
-      omega (arith, L .inv .0 .ofOwn (c .loop-test .taken), own-fingerprint-lt front),
-    )
+    let a = c .before .before .before .before .before .before .args in
+    omega (arith, L .inv .0 .ofOwn (c .loop-test .taken), own-fingerprint-lt (take (suc (L .p)) (a .text .now)))
 
--- one place on, with the fingerprints of the next place where there is one
-next : (c : tie.Joined1 Inv-loop μ-loop) (fingerprint own : ℕ) →
+-- one place on, with the fingerprint of the next place where there is one
+next : (c : tie.Joined1 Inv-loop μ-loop) (own : ℕ) →
     let L = c .before .before .before in
     let b = L .before in
     let a = b .before .before .before .before .args in
     let ps = patternsOf (a .set .now) in
     let text = a .text .now in
     let p = L .loop .p + 1 in
-    (p < length text → fingerprint ≡ textFingerprint (b .shortest-length .result) (take (suc p) text))
-    → (p < length text → own ≡ textFingerprint 17 (take (suc p) text))
-    → Scan ps text (b .shortest-length .result) p fingerprint own (c .if1 .begin) (c .if1 .count)
+    (p < length text → own ≡ textFingerprint 17 (take (suc p) text))
+    → Scan ps text p own (c .if1 .begin) (c .if1 .count)
     × Written (a .out .now) (c .if1 .out) 0 (c .if1 .to) (restHits ps text 0) (restHits ps text p)
-next c fingerprint own ofSet ofOwn =
+next c own ofOwn =
     let g = c .before in
     let t = g .before in
     let L = t .before .loop in
-    let b = t .before .before .shortest-length .result in
     let s = t .before .before .before .before .before .before in
     let a = s .args in
     let ps = patternsOf (a .set .now) in
@@ -100,37 +110,38 @@ next c fingerprint own ofSet ofOwn =
     -- a gap: no pattern has a hit
     (λ w. let gap = sym (g .is-gap .ensures) ∙ w .0 .taken in
     let none = gap-candidates ps text (L .p) good (t .loop-test .taken) gap in (
-      scan-gap ps text b (L .p) (L .fingerprint) (L .own) (L .begin) (L .count) fingerprint own (c .if1 .begin) (c .if1 .count)
-          good (t .loop-test .taken) (L .inv .0) ofSet ofOwn
+      scan-gap ps text (L .p) (L .own) (L .begin) (L .count) own (c .if1 .begin) (c .if1 .count)
+          good (t .loop-test .taken) (L .inv .0) ofOwn
           gap (w .2) (w .3),
       written-none (a .out .now) (L .out) 0 (L .to) all (restHits ps text (L .p)) (L .inv .1) (c .if1 .out) (c .if1 .to)
           (restHits ps text (L .p + 1)) (rest-none ps text (L .p) (t .loop-test .taken) (no-candidate-hit ps text (L .p) good none)) (w .1) (w .4),
     ))
     (⊎-elim
     -- patterns have the fingerprint: the candidates are counted, and the hits are written
-    (λ w. let alike = w .1 in
-    let fits = w .3 in
+    (λ w. let alike = w .2 in
+    let fits = w .4 in
     let looked =
-    looked-fitting (a .setlow .now) (a .sethigh .now) (a .fits .now) (L .fingerprint) n (alike .result) (alike .ensures) (fits .result) (fits .ensures) in
-    let hit = w .5 in
-    let e = w .7 .ensures in (
-      scan-next ps text b (L .p) (L .fingerprint) (L .own) (L .begin) (L .count) fingerprint own (c .if1 .begin) (c .if1 .count)
-          good (t .loop-test .taken) (L .inv .0) ofSet ofOwn
-          (sym (g .is-gap .ensures) ∙ w .0 .left) (w .11) (fits .result) (here record { before = g; if1 = w .0 } (fits .result) looked) (fits .ok)
-          (w .12 ∙ ap (λ (n : ℕ). L .count + n) (w .4 .ensures)),
+    looked-fitting (a .setlow .now) (a .sethigh .now) (a .fits .now) (w .1 .result) n (alike .result) (alike .ensures) (fits .result) (fits .ensures) in
+    let hit = w .6 in
+    let e = w .8 .ensures in (
+      scan-next ps text (L .p) (L .own) (L .begin) (L .count) own (c .if1 .begin) (c .if1 .count)
+          good (t .loop-test .taken) (L .inv .0) ofOwn
+          (sym (g .is-gap .ensures) ∙ w .0 .left) (w .12) (fits .result)
+          (here record { before = record { before = g; if1 = w .0 }; set-fingerprint = w .1 } (fits .result) looked) (fits .ok)
+          (w .13 ∙ ap (λ (n : ℕ). L .count + n) (w .5 .ensures)),
       place-written ps text (L .p) (length text) (t .loop-test .taken) good (a .numbers .now) (hit .result) (s .pre .1 .1 .1 .check .ranks)
-          (hit .ensures) (a .out .now) (L .out) 0 (L .to) all (L .inv .1) (c .if1 .out) (c .if1 .to) (w .10 ∙ e .1) (w .13 ∙ e .0),
+          (hit .ensures) (a .out .now) (L .out) 0 (L .to) all (L .inv .1) (c .if1 .out) (c .if1 .to) (w .11 ∙ e .1) (w .14 ∙ e .0),
     ))
     -- none has it, so the place has no hit
-    (λ w. let alike = w .1 in
+    (λ w. let alike = w .2 in
     let looked =
-    looked-none (a .setlow .now) (a .sethigh .now) (a .fits .now) (L .fingerprint) n (alike .result) (alike .ensures) (w .2 .left) in
-    let none = here record { before = g; if1 = w .0 } 0 looked in (
-      scan-pass ps text b (L .p) (L .fingerprint) (L .own) (L .begin) (L .count) fingerprint own (c .if1 .begin) (c .if1 .count)
-          good (t .loop-test .taken) (L .inv .0) ofSet ofOwn
-          (sym (g .is-gap .ensures) ∙ w .0 .left) (w .4) none (w .5),
+    looked-none (a .setlow .now) (a .sethigh .now) (a .fits .now) (w .1 .result) n (alike .result) (alike .ensures) (w .3 .left) in
+    let none = here record { before = record { before = g; if1 = w .0 }; set-fingerprint = w .1 } 0 looked in (
+      scan-pass ps text (L .p) (L .own) (L .begin) (L .count) own (c .if1 .begin) (c .if1 .count)
+          good (t .loop-test .taken) (L .inv .0) ofOwn
+          (sym (g .is-gap .ensures) ∙ w .0 .left) (w .5) none (w .6),
       written-none (a .out .now) (L .out) 0 (L .to) all (restHits ps text (L .p)) (L .inv .1) (c .if1 .out) (c .if1 .to)
-          (restHits ps text (L .p + 1)) (rest-none ps text (L .p) (t .loop-test .taken) (no-candidate-hit ps text (L .p) good none)) (w .3) (w .6),
+          (restHits ps text (L .p + 1)) (rest-none ps text (L .p) (t .loop-test .taken) (no-candidate-hit ps text (L .p) good none)) (w .4) (w .7),
     )))
     (c .if1 .came)
 
@@ -141,7 +152,7 @@ loop-holds : tie.Need-loop-holds Inv-loop μ-loop
 loop-holds c =
     let a = c .before .before .before .before .args in
     let ps = patternsOf (a .set .now) in
-    (scan-start ps (a .text .now) (c .shortest-length .result) (b-length c .0), written-start (a .out .now) 0 (restHits ps (a .text .now) 0))
+    (scan-start ps (a .text .now), written-start (a .out .now) 0 (restHits ps (a .text .now) 0))
 
 is-gap-requires : tie.Need-is-gap-requires Inv-loop μ-loop
 is-gap-requires c κs = search needs
@@ -149,14 +160,17 @@ is-gap-requires c κs = search needs
 add-begin : tie.Need-add-begin Inv-loop μ-loop
 add-begin c = search needs
 
+set-fingerprint-requires : tie.Need-set-fingerprint-requires Inv-loop μ-loop
+set-fingerprint-requires c κs = b-length (c .before .before .before .before)
+
 by-set-fingerprint-requires : tie.Need-by-set-fingerprint-requires Inv-loop μ-loop
-by-set-fingerprint-requires c κs = small (c .before .before) .0
+by-set-fingerprint-requires c κs = c .set-fingerprint .ensures .0
 
 add-fitting : tie.Need-add-fitting Inv-loop μ-loop
 add-fitting c = search needs
 
 sub-fitting : tie.Need-sub-fitting Inv-loop μ-loop
-sub-fitting c = let h = begun (c .before .before) .0 in omega arith
+sub-fitting c = let h = begun (c .before .before .before) .0 in omega arith
 
 fitting-requires : tie.Need-fitting-requires Inv-loop μ-loop
 fitting-requires c κs = search needs
@@ -167,29 +181,32 @@ size-requires c κs = search needs
 add-count : tie.Need-add-count Inv-loop μ-loop
 add-count c =
     let f = c .before in
-    let t = f .before .before .before .before .before in
+    let t = f .before .before .before .before .before .before in
     let scan = t .before .loop .inv .0 in
     let s = t .before .before .before .before .before .before in
     omega (arith, s .pre .1 .0 .0, scan .bound, scan .inside, c .size .ensures, size-le (f .fitting .result) (f .fitting .ok))
 
-hits-at-requires : tie.Need-hits-at-requires Inv-loop μ-loop
-hits-at-requires c κs =
-    let e = c .before .before .before .before in
+hits-among-requires : tie.Need-hits-among-requires Inv-loop μ-loop
+hits-among-requires c κs =
+    let f = c .before in
+    let e = f .before .before .before .before in
     let t = e .before .before in
     let s = t .before .before .before .before .before .before in
-    (s .pre .0, ((t .loop-test .taken, t .before .loop .inv .0 .ofOwn (t .loop-test .taken), begun e), s .pre .1 .1 .1))
+    let tables = s .pre .1 .1 .1 in
+    let own = t .before .loop .inv .0 .ofOwn (t .loop-test .taken) in
+    (s .pre .0, ((t .loop-test .taken, own), (found f, ((tables .own .byLow, tables .own .byHigh), tables .check))))
 
 write-place-requires : tie.Need-write-place-requires Inv-loop μ-loop
 write-place-requires c κs =
     let h = c .before in
-    let e = h .before .before .before .before .before in
+    let e = h .before .before .before .before .before .before in
     let t = e .before .before in
     let L = t .before .loop in
     let s = t .before .before .before .before .before .before in
     let a = s .args in
     let ps = patternsOf (a .set .now) in
     let text = a .text .now in
-    let found = h .hits-at in (
+    let found = h .hits-among in (
       omega (arith, t .loop-test .taken, s .pre .1 .0 .0),
       place-room ps text (L .p) (length text) (t .loop-test .taken) (set-good (a .set .now) (s .pre .0)) (a .numbers .now)
           (found .result) (s .pre .1 .1 .1 .check .ranks) (found .ensures) (a .out .now) (L .out) 0 (L .to) (restHits ps text 0) (L .inv .1)
@@ -203,48 +220,36 @@ new-bit-requires : tie.Need-new-bit-requires Inv-loop μ-loop
 new-bit-requires c κs = search needs
 
 roll-requires : tie.Need-roll-requires Inv-loop μ-loop
-roll-requires c κs =
-    let t = c .before .before .before .before in
-    let l = b-length (t .before .before) in
-    (small t .0, c .new-bit .ensures .1, omega (arith, l .0), omega (arith, l .1))
-
-roll-requires-2 : tie.Need-roll-requires-2 Inv-loop μ-loop
-roll-requires-2 c κs =
-    let r = c .before in
-    (small (r .before .before .before .before) .1, r .new-bit .ensures .1, omega arith, omega arith)
+roll-requires c κs = (small (c .before .before .before .before), c .new-bit .ensures .1, omega arith, omega arith)
 
 loop-less : tie.Need-loop-less Inv-loop μ-loop
 loop-less c = search needs
 
--- both fingerprints are rolled on to the next place
+-- the fingerprint is rolled on to the next place
 loop-again : tie.Need-loop-again Inv-loop μ-loop
 loop-again c =
-    let r = c .before in
-    let bit = r .before .new-bit in
-    let i = r .before .before in
+    let bit = c .before .new-bit in
+    let i = c .before .before in
     let t = i .before .before .before in
     let L = t .before .loop in
-    let b = t .before .before in
-    let text = b .before .before .before .before .args .text .now in
-    next (i .before) (r .roll .result) (c .roll2 .result)
-    (λ h. scan-roll (b .shortest-length .result) text (L .p) (L .fingerprint) (bit .result) (r .roll .result)
-    (b-length b .0) h (L .inv .0 .ofSet (t .loop-test .taken)) (bit .ensures .0) (r .roll .ensures))
-    (λ h. scan-roll 17 text (L .p) (L .own) (bit .result) (c .roll2 .result)
-    (omega arith) h (L .inv .0 .ofOwn (t .loop-test .taken)) (bit .ensures .0) (c .roll2 .ensures))
+    let text = t .before .before .before .before .before .before .args .text .now in
+    next (i .before) (c .roll .result)
+    (λ h. scan-roll 17 text (L .p) (L .own) (bit .result) (c .roll .result)
+    (omega arith) h (L .inv .0 .ofOwn (t .loop-test .taken)) (bit .ensures .0) (c .roll .ensures))
 
 -- behind the last place all is counted and written
-ended : (c : tie.After-shortest-length Inv-loop μ-loop) (out : List ℕ) (fingerprint own begin count to p : ℕ) →
+ended : (c : tie.After-shortest-length Inv-loop μ-loop) (out : List ℕ) (own begin count to p : ℕ) →
     let a = c .before .before .before .before .args in
     let ps = patternsOf (a .set .now) in
     let text = a .text .now in
-    Scan ps text (c .shortest-length .result) p fingerprint own begin count
+    Scan ps text p own begin count
     × Written (a .out .now) out 0 to (restHits ps text 0) (restHits ps text p)
     → length text ≤ p → (out' : List ℕ) (count' to' : ℕ) → out' ≡ out → count' ≡ count → to' ≡ to
     → (length out' ≡ length (a .out .now))
     × (to' / 2 ≡ length (hits ps text))
     × (count' ≡ candidates ps text)
     × (out' ≡ sets (a .out .now) 0 (hitWords (hits ps text)))
-ended c out fingerprint own begin count to p inv h out' count' to' o k t =
+ended c out own begin count to p inv h out' count' to' o k t =
     let a = c .before .before .before .before .args in
     let ps = patternsOf (a .set .now) in
     let text = a .text .now in
@@ -253,7 +258,7 @@ ended c out fingerprint own begin count to p inv h out' count' to' o k t =
     let e = written-end (a .out .now) out 0 to (restHits ps text 0) (restHits ps text p) (inv .1) none in (
       ap length o ∙ inv .1 .size,
       omega (arith, t, e .0, ap length all),
-      k ∙ scan-end ps text (c .shortest-length .result) p fingerprint own begin count (inv .0) h,
+      k ∙ scan-end ps text p own begin count (inv .0) h,
       o ∙ e .1 ∙ ap (λ (v : List (ℕ × ℕ)). sets (a .out .now) 0 (hitWords v)) all,
     )
 
@@ -271,13 +276,13 @@ left c =
     let text = b .before .before .before .before .args .text .now in
     let x = c .loop-test in
     ⊎-elim
-    (λ w. ended b (L .out) (L .fingerprint) (L .own) (L .begin) (L .count) (L .to) (L .p) (L .inv) (w .0 .left) (x .out) (x .count) (x .to)
+    (λ w. ended b (L .out) (L .own) (L .begin) (L .count) (L .to) (L .p) (L .inv) (w .0 .left) (x .out) (x .count) (x .to)
     (w .1) (w .3) (w .4))
     (λ w. let i = w .2 in
     let over : L .p + 1 < length text → ⊥ = λ h. omega (arith, h, w .3 .taken) in
     let j : tie.Joined1 Inv-loop μ-loop = record { before = record { before = record { before = c .before; loop-test = w .0 }; is-gap = w .1 }; if1 = i } in
-    let on = next j (L .fingerprint) (L .own) (λ h. absurd (over h)) (λ h. absurd (over h)) in
-    ended b (i .out) (L .fingerprint) (L .own) (i .begin) (i .count) (i .to) (L .p + 1) on (w .3 .taken) (x .out) (x .count) (x .to)
+    let on = next j (L .own) (λ h. absurd (over h)) in
+    ended b (i .out) (L .own) (i .begin) (i .count) (i .to) (L .p + 1) on (w .3 .taken) (x .out) (x .count) (x .to)
     (w .4) (w .6) (w .7))
     (x .came)
 
@@ -299,18 +304,18 @@ search-places-spec =
     loop-holds
     is-gap-requires
     add-begin
+    set-fingerprint-requires
     by-set-fingerprint-requires
     add-fitting
     sub-fitting
     fitting-requires
     size-requires
     add-count
-    hits-at-requires
+    hits-among-requires
     write-place-requires
     add-p
     new-bit-requires
     roll-requires
-    roll-requires-2
     loop-less
     loop-again
     same-length
