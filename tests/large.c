@@ -341,6 +341,23 @@ static void whole_text(void)
     free_list(few);
 }
 
+/* Whether the automaton of a set, built again over its own words, and over them with every 1000th changed, has the same words. */
+static int builds_over(const uint32_t *set, size_t words, uint32_t *automaton, size_t room, FinderCounts told)
+{
+    uint32_t *copy = malloc(room * sizeof *copy);
+    int same = copy != NULL;
+    if (same)
+        memcpy(copy, automaton, room * sizeof *copy);
+    for (int changed = 0; same && changed < 2; changed++) {
+        for (size_t i = 0; changed && i < told.second; i += 1000)
+            automaton[i]++;
+        FinderCounts c = finder_build_automaton(set, words, automaton, room);
+        same = c.refusal == 0 && c.first == told.first && c.second == told.second && memcmp(copy, automaton, room * sizeof *copy) == 0;
+    }
+    free(copy);
+    return same;
+}
+
 /* Leaves out the hits of pattern j and lowers the numbers above it; tells how many are left. */
 static size_t leave_out(List list, size_t listed, uint32_t j)
 {
@@ -403,6 +420,7 @@ static void full_set(void)
     c = finder_build_automaton(set, USED, automaton, AUTOMATON);
     check(c.refusal == 0 && c.first > 64 && c.first <= 4097 && c.second == 2 * 64 + 16 * c.first - 7, "the automaton of the full set is built");
     check(held(automaton, c.second, AUTOMATON) == AUTOMATON, "words behind it keep their values");
+    check(builds_over(set, USED, automaton, AUTOMATON, c), "it is built over its own words, and over them with some changed, to the same words");
 
     listed = list_plainly(set, text, TEXT, plain);
     check(listed >= 56 && 2 * listed <= ROOM, "the plain listing has hits of the windows");

@@ -4,7 +4,7 @@ use Rattle.lists.proofs.Prelude.{_≡_, _∙_, ap, sym, ap₂, true, false, _&&
 use Rattle.lists.proofs.Prelude.{length-drop}
 use Rattle.lists.proofs.Prelude.{length-append, length-take-le, getD-take, getD-drop, ext-getD, take-add, take-at, drop-drop, drop-append-add, drop-cons}
 use Rattle.lists.proofs.Prelude.{set-at, append-assoc, append-snoc, arith, same}
-use Rattle.lists.proofs.Prelude.{refl, Bool, cond, eqb, eqb-true, eqb-false, eq-eqb, ne-eqb, decLt}
+use Rattle.lists.proofs.Prelude.{decLt}
 use Rattle.lists.proofs.Same.{same-true, same-false, same-append}
 
 -- ---- stores
@@ -48,49 +48,17 @@ module _ (xs ys : List ℕ) (at : ℕ) where
   eight-differ i h f =
       same-false (take 8 (drop at xs)) ys (λ e. f (sym (getD-take 8 (drop at xs) i 0 h ∙ getD-drop at xs i 0) ∙ ap (λ (l : List ℕ). getD l i 0) e))
 
--- of the first i words so many are the same
-pub record Alike (xs ys : List ℕ) (at count i : ℕ) : Type 0 where
-  pub within : count ≤ i
-  pub all : count ≡ i → (a : ℕ) → a < i → getD xs (at + a) 0 ≡ getD ys a 0
-  pub some : count < i → (a : ℕ) × (a < i) × (getD xs (at + a) 0 ≡ getD ys a 0 → ⊥)
+-- the first i words are the same
+abbrev pub Alike : List ℕ → List ℕ → ℕ → ℕ → Type 0
+Alike xs ys at i = (a : ℕ) → a < i → getD xs (at + a) 0 ≡ getD ys a 0
 
-module _ (xs ys : List ℕ) (at : ℕ) where
-  pub alike-none : Alike xs ys at 0 0
-  alike-none =
-      record { within = omega arith; all = λ e a l. absurd (let z : ⊥ = omega arith in z); some = λ l. absurd (let z : ⊥ = omega arith in z) }
-
-  pub alike-more : (count i r : ℕ) → Alike xs ys at count i → r ≡ cond (eqb (getD xs (at + i) 0) (getD ys i 0)) 1 0 → Alike xs ys at (count + r) (i + 1)
-  alike-more count i r w e = go (eqb (getD xs (at + i) 0) (getD ys i 0)) refl
-    where
-      go : (b : Bool) → eqb (getD xs (at + i) 0) (getD ys i 0) ≡ b → Alike xs ys at (count + r) (i + 1)
-      go true t =
-          let one : r ≡ 1 = e ∙ ap (λ (b : Bool). cond b 1 0) t in
-          let here = eqb-true (getD xs (at + i) 0) (getD ys i 0) t in
-          record {
-            within = omega (arith, w .within);
-            all = λ q a l. below a (decLt a i) l (w .all (omega arith)) here;
-            some = λ l. let d = w .some (omega arith) in (d .0, omega (arith, d .1), d .2);
-          }
-        where
-          below : (a : ℕ) → Dec (a < i) → a < i + 1 → ((a : ℕ) → a < i → getD xs (at + a) 0 ≡ getD ys a 0) → getD xs (at + i) 0 ≡ getD ys i 0
-              → getD xs (at + a) 0 ≡ getD ys a 0
-          below a (yes d) l f h = f a d
-          below a (no d) l f h = let q : a ≡ i = omega arith in ap (λ (j : ℕ). getD xs (at + j) 0) q ∙ h ∙ ap (λ (j : ℕ). getD ys j 0) (sym q)
-      go false t =
-          let none : r ≡ 0 = e ∙ ap (λ (b : Bool). cond b 1 0) t in
-          record {
-            within = omega (arith, w .within);
-            all = λ q. absurd (let z : ⊥ = omega (arith, w .within) in z);
-            some = λ l. (i, omega arith, eqb-false (getD xs (at + i) 0) (getD ys i 0) t);
-          }
-
--- all of eight, or not
-pub alike-eight : (xs ys : List ℕ) (at count : ℕ) → at + 8 ≤ length xs → length ys ≡ 8 → Alike xs ys at count 8 → eqb count 8 ≡ same (take 8 (drop at xs)) ys
-alike-eight xs ys at count l e w = go (decLt count 8)
+-- one more
+pub alike-more : (xs ys : List ℕ) (at i : ℕ) → Alike xs ys at i → getD xs (at + i) 0 ≡ getD ys i 0 → Alike xs ys at (i + 1)
+alike-more xs ys at i f h a l = go (decLt a i)
   where
-    go : Dec (count < 8) → eqb count 8 ≡ same (take 8 (drop at xs)) ys
-    go (yes d) = let s = w .some d in ne-eqb count 8 (λ q. omega arith) ∙ sym (eight-differ xs ys at (s .0) (s .1) (s .2))
-    go (no d) = let q : count ≡ 8 = omega (arith, w .within) in eq-eqb count 8 q ∙ sym (eight-same xs ys at l e (w .all q))
+    go : Dec (a < i) → getD xs (at + a) 0 ≡ getD ys a 0
+    go (yes d) = f a d
+    go (no d) = let q : a ≡ i = omega arith in ap (λ (j : ℕ). getD xs (at + j) 0) q ∙ h ∙ ap (λ (j : ℕ). getD ys j 0) (sym q)
 
 -- ---- a row and behind it a record
 

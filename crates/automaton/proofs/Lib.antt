@@ -2,6 +2,6 @@
 pub mod EightWords
 pub mod Front
 pub mod Records
-pub mod Along
+pub mod Walk
 pub mod Room
 pub mod Entries

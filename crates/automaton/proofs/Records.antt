@@ -22,14 +22,24 @@ row-word ps n x h = getD-tabulate 8 (entryOf ps n) 0 x h
 abbrev pub nodeAt : ℕ → ℕ → ℕ
 nodeAt k n = 2 * k + 1 + (16 * n - 8)
 
+pub begin-at : (k n : ℕ) → 0 < n → 2 * k + 16 * n - 7 ≡ nodeAt k n
+begin-at k n h = omega arith
+
 -- they are its row and its record, but those of the root its record alone
 abbrev pub wordsOf : PatternSet → ℕ → List ℕ
 wordsOf ps zero = recordOf ps zero
 wordsOf ps (suc n) = nodeWords ps (suc n)
 
-pub words-below : (ps : PatternSet) (n : ℕ) → 0 < n → nodeWords ps n ≡ wordsOf ps n
+words-below : (ps : PatternSet) (n : ℕ) → 0 < n → nodeWords ps n ≡ wordsOf ps n
 words-below ps zero h = absurd (let z : ⊥ = omega arith in z)
 words-below ps (suc n) h = refl
+
+-- the row and the record of a node other than the root, as they are made, are its words
+pub node-words : (ps : PatternSet) (n : ℕ) (row rec : List ℕ) → 0 < n → row ≡ rowOf ps n → rec ≡ recordOf ps n
+    → (row ++ rec ≡ wordsOf ps n) × (16 ≡ length (wordsOf ps n)) × (length row ≡ 8)
+node-words ps n row rec h r e =
+    let below = words-below ps n h in
+    (ap₂ (λ (x y : List ℕ). x ++ y) r e ∙ below, sym (length-node ps n) ∙ ap length below, ap length r ∙ length-row ps n)
 
 nodeAt-next : (ps : PatternSet) (k n : ℕ) → nodeAt k (n + 1) ≡ nodeAt k n + length (wordsOf ps n)
 nodeAt-next ps k zero = omega (arith, length-record ps 0)

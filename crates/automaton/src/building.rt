@@ -5,6 +5,7 @@ ghost use Rattle.automaton_model.specs.Automaton.{nodes, automatonWords};
 ghost use Rattle.pattern_set.specs.PatternSet.{patternsOf, IsSet};
 ghost use Rattle.automaton_lookup.specs.Made.{Made};
 ghost use Rattle.automaton_records.specs.Words.{recordWords};
+use crate::checking;
 use automaton_records::Record;
 
 // The order, what neighbours share, and the number of nodes, which is also told; the words behind
@@ -63,7 +64,8 @@ fn store_node(out: &mut [u32], at: usize, row: &[u32; 8], r: Record)
 }
 
 // The records of all nodes behind the number of nodes, each made from those before it, and before
-// each but that of the root the node's row; the words behind stay as they were.
+// each but that of the root the node's row. A node whose words happen to stand there is passed
+// over, and the words behind stay as they were.
 pub(crate) fn write_records(set: &[u32], k: usize, count: usize, out: &mut [u32])
     requires { ⌜ Made (now set) (now out) k 0 ⌝ }
     requires { ⌜ count ≡ length (nodes (patternsOf (now set))) ⌝ }
@@ -72,17 +74,18 @@ pub(crate) fn write_records(set: &[u32], k: usize, count: usize, out: &mut [u32]
 {
     let root = automaton_records::root_record(set);
     store_record(out, 2 * k + 1, root);
-    let mut row = [0u32; 8];
     let mut parent: usize = 0;
     let mut end: usize = 0;
     let mut n: usize = 1;
-    while n < count {
-        parent = automaton_records::next_parent(set, out, k, n, n, parent);
-        let place = automaton_records::next_place(set, out, k, n, n, parent, end);
-        let made = automaton_records::make_record(set, out, k, n, parent, place, &mut row);
-        let record = made.record;
-        store_node(out, 2 * k + 16 * n - 7, &row, record);
-        end = made.end;
-        n += 1;
+    loop {
+        let wrong = checking::first_wrong(set, k, count, out, n, parent, end);
+        if wrong.node == count {
+            return;
+        }
+        let row = wrong.row;
+        store_node(out, 2 * k + 16 * wrong.node - 7, &row, wrong.record);
+        parent = wrong.parent;
+        end = wrong.end;
+        n = wrong.node + 1;
     }
 }

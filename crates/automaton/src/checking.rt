@@ -1,10 +1,11 @@
 // Comparing words, whatever they are, with those of an automaton. k is the number of patterns and
 // count that of the nodes.
-ghost use Rattle.lists.specs.Prelude.{_≡_, cond, _++_, _+_, _*_, _≤_, _<_, eqb, length, take, drop, same, begins};
+ghost use Rattle.lists.specs.Prelude.{_≡_, _++_, _+_, _*_, _≤_, _<_, length, take, drop, same, begins};
 ghost use Rattle.automaton_model.specs.Automaton.{nodes, automatonWords};
 ghost use Rattle.pattern_set.specs.PatternSet.{patternsOf, IsSet};
 ghost use Rattle.automaton_lookup.specs.Made.{Made};
 ghost use Rattle.automaton_records.specs.Words.{recordWords};
+ghost use Rattle.automaton.specs.Walk.{Along, Missing};
 use automaton_records::Record;
 
 // Whether the words begin with the order, what neighbours share, and the number of nodes.
@@ -25,26 +26,19 @@ pub(crate) fn is_front(set: &[u32], k: usize, words: &[u32]) -> bool
     casts::wide(words[2 * k]) == automaton_order::count_nodes(set, words)
 }
 
-// 1 where two words are the same, else 0.
-fn same_word(a: u32, b: u32) -> usize
-    ensures { λ r. ⌜ r ≡ cond (eqb a b) 1 0 ⌝ }
-{
-    if a == b { 1 } else { 0 }
-}
-
-// Whether eight words stand from `at` on: all are compared, and those that are the same counted,
-// which is less work than to ask after each.
+// Whether eight words stand from `at` on.
 fn is_eight(words: &[u32], at: usize, wanted: &[u32; 8]) -> bool
     requires { ⌜ (at + 8 ≤ length (now words)) × (length (now wanted) ≡ 8) ⌝ }
     ensures { λ b. ⌜ b ≡ same (take 8 (drop at (now (words .entry)))) (now (wanted .entry)) ⌝ }
 {
-    let mut count: usize = 0;
     let mut i = 0;
     while i < 8 {
-        count += same_word(words[at + i], wanted[i]);
+        if words[at + i] != wanted[i] {
+            return false;
+        }
         i += 1;
     }
-    count == 8
+    true
 }
 
 // Whether the words of a record stand from `at` on.
@@ -76,8 +70,74 @@ fn is_node(words: &[u32], at: usize, row: &[u32; 8], r: Record) -> bool
     is_record(words, at + 8, r)
 }
 
+// What a walk over the nodes stops at: the first node whose words are not there, its parent, the
+// place behind the last pattern that begins with its head, and its row and record. Where the words
+// of all nodes are there, the number of nodes.
+pub(crate) struct Wrong {
+    pub(crate) node: usize,
+    pub(crate) parent: usize,
+    pub(crate) end: usize,
+    pub(crate) row: [u32; 8],
+    pub(crate) record: Record,
+}
+
+// What a walk stops at where the words of all nodes are there: the rest is not read.
+fn none_wrong(set: &[u32], count: usize) -> Wrong
+    requires { ⌜ IsSet (now set) ⌝ }
+    requires { ⌜ 0 < length (patternsOf (now set)) ⌝ }
+    ensures { λ r. ⌜ r .node ≡ count ⌝ }
+{
+    Wrong {
+        node: count,
+        parent: 0,
+        end: 0,
+        row: [0; 8],
+        record: automaton_records::root_record(set),
+    }
+}
+
+// The first node from `from` on whose words are not there. Each is made from those before it, which
+// are known to be right. The row is an array of the walk's own, apart from the words.
+pub(crate) fn first_wrong(
+    set: &[u32],
+    k: usize,
+    count: usize,
+    words: &[u32],
+    from: usize,
+    parent: usize,
+    end: usize,
+) -> Wrong
+    requires { ⌜ Along (now set) (now words) k count parent end from ⌝ }
+    requires { ⌜ count ≡ length (nodes (patternsOf (now set))) ⌝ }
+    ensures { λ r. ⌜ Made (now (set .entry)) (now (words .entry)) k (r .node) × (from ≤ r .node) ⌝ }
+    ensures { λ r. ⌜ (r .node < count → Missing (now (set .entry)) (now (words .entry)) k r) ⌝ }
+{
+    let mut row = [0u32; 8];
+    let mut p = parent;
+    let mut e = end;
+    let mut n = from;
+    while n < count {
+        p = automaton_records::next_parent(set, words, k, n, n, p);
+        let place = automaton_records::next_place(set, words, k, n, n, p, e);
+        let made = automaton_records::make_record(set, words, k, n, p, place, &mut row);
+        let record = made.record;
+        e = made.end;
+        if !is_node(words, 2 * k + 16 * n - 7, &row, record) {
+            return Wrong {
+                node: n,
+                parent: p,
+                end: e,
+                row,
+                record,
+            };
+        }
+        n += 1;
+    }
+    none_wrong(set, count)
+}
+
 // Whether the records of all nodes stand behind the number of nodes, and before each but that of
-// the root the node's row. Each is made from those before it, which are known to be right.
+// the root the node's row.
 pub(crate) fn are_records(set: &[u32], k: usize, count: usize, words: &[u32]) -> bool
     requires { ⌜ Made (now set) (now words) k 0 ⌝ }
     requires { ⌜ count ≡ length (nodes (patternsOf (now set))) ⌝ }
@@ -87,20 +147,6 @@ pub(crate) fn are_records(set: &[u32], k: usize, count: usize, words: &[u32]) ->
     if !is_record(words, 2 * k + 1, root) {
         return false;
     }
-    let mut row = [0u32; 8];
-    let mut parent: usize = 0;
-    let mut end: usize = 0;
-    let mut n: usize = 1;
-    while n < count {
-        parent = automaton_records::next_parent(set, words, k, n, n, parent);
-        let place = automaton_records::next_place(set, words, k, n, n, parent, end);
-        let made = automaton_records::make_record(set, words, k, n, parent, place, &mut row);
-        let record = made.record;
-        if !is_node(words, 2 * k + 16 * n - 7, &row, record) {
-            return false;
-        }
-        end = made.end;
-        n += 1;
-    }
-    true
+    let wrong = first_wrong(set, k, count, words, 1, 0, 0);
+    wrong.node == count
 }

@@ -8,7 +8,7 @@ use Rattle.lists.proofs.Prelude.{le-trans, length, lt-ltb, ltb, ne-eqb, not, po
 use Rattle.lists.proofs.Members.{mem-below}
 use Rattle.lists.proofs.Select.{mem-select, select-snoc-not}
 use Rattle.lists.proofs.SelectTable.{select-below-ext}
-use Rattle.lists.proofs.Tests.{or-comm, and-false, and-split, and-join, test-ext, true-T, clash}
+use Rattle.lists.proofs.Tests.{or-comm, and-split, and-join, test-ext, true-T, clash}
 use Rattle.lists.proofs.Rising.{Rising, rising-select, rising-below}
 use Rattle.bit_sets.specs.BitSets.{bitAt, bits}
 use Rattle.bit_sets.proofs.Digits.{bitsBelow, bitAt-and, bitAt-or, bitAt-xor, bitAt-pow, bitsBelow-empty, length-bitsBelow, first-bitsBelow}
@@ -89,15 +89,13 @@ pub bits-zero : bits 0 ≡ []
 unfolding bits bitsBelow
 bits-zero = bitsBelow-empty 64
 
--- without a member a set is a smaller number
-pub without-lt : (a b r i : ℕ) → r < 2 ^ 64 → ((j : ℕ) → j < 64 → bitAt r j ≡ (bitAt a j && not (bitAt b j))) → i < 64 → T (bitAt a i) → T (bitAt b i) → r < a
-without-lt a b r i h f k t u =
-    let le = subset-le 64 r a h (λ j l m. and-split (bitAt a j) (not (bitAt b j)) (subst T (f j l) m) .0) in
-    let out : bitAt r i ≡ false = f i k ∙ rw (true-T (bitAt b i) u) (and-false (bitAt a i)) in
-    let differ : r ≡ a → ⊥ = λ e. clash (true-T (bitAt a i) t) (ap (λ (m : ℕ). bitAt m i) (sym e) ∙ out) in
-    go (decLt r a) le differ
+-- a set that has only members of another and lacks one is a smaller number
+pub subset-lt : (x y i : ℕ) → x < 2 ^ 64 → ((j : ℕ) → j < 64 → T (bitAt x j) → T (bitAt y j)) → T (bitAt y i) → bitAt x i ≡ false → x < y
+subset-lt x y i h f t out =
+    let differ : x ≡ y → ⊥ = λ e. clash (true-T (bitAt y i) t) (ap (λ (m : ℕ). bitAt m i) (sym e) ∙ out) in
+    go (decLt x y) (subset-le 64 x y h f) differ
   where
-    go : Dec (r < a) → r ≤ a → (r ≡ a → ⊥) → r < a
+    go : Dec (x < y) → x ≤ y → (x ≡ y → ⊥) → x < y
     go (yes l) le d = l
     go (no l) le d = absurd (d (omega arith))
 
@@ -109,6 +107,13 @@ bits-rise m = rising-select (λ i j. i < j) (bitAt m) (tabulate 64 (λ i. i)) (r
 
 pub lowest-in : (m r : ℕ) → bits m ≡ r ∷ drop 1 (bits m) → T (bitAt m r)
 lowest-in m r e = mem-bits m r .0 (subst (λ (l : List ℕ). List·Memᴰ r l) (sym e) (List·Memᴰ·head refl)) .1
+
+pub lowest-le : (m r j : ℕ) → bits m ≡ r ∷ drop 1 (bits m) → j < 64 → T (bitAt m j) → r ≤ j
+lowest-le m r j e h t = go (List·Memᴰ·cases-cons (subst (λ (l : List ℕ). List·Memᴰ j l) e (mem-bits m j .1 (h, t))))
+  where
+    go : (j ≡ r) ⊎ List·Memᴰ j (drop 1 (bits m)) → r ≤ j
+    go (inl q) = omega arith
+    go (inr d) = let l = subst (λ (l : List ℕ). Rising (λ i j. i < j) l) e (bits-rise m) .0 j d in omega arith
 
 -- without its lowest member a set has the others
 pub lowest-out : (m n r j : ℕ) → bits m ≡ r ∷ drop 1 (bits m) → bits n ≡ drop 1 (bits m) → j < 64 → bitAt n j ≡ (not (eqb j r) && bitAt m j)

@@ -1,11 +1,9 @@
--- The rises over hits: of one hit, from the values at the two ends of its window, of a hit array,
--- hit by hit, and one rise at every place. And when an array is too short for them.
-use Rattle.lists.proofs.Prelude.{_≡_, _∙_, ap, ap₂, sym, refl, List, _∷_, _++_, map, ℕ, zero, suc, _+_, _-_, _*_, _/_, _≤_, _<_, ltb, ltb→lt, lt→ltb, ℤ, pos}
-use Rattle.lists.proofs.Prelude.{_-ℤ_, length, getD, drop, set, replicate, length-set, lt-ltb, le-ltb, w32, SFits, toZ, ofZ, arith, tabulate}
-use Rattle.lists.proofs.Order.{back-i32}
+-- The rises over hits: of one hit, from the values at the two ends of its window, and one rise at
+-- every place. And when an array is too short for them.
+use Rattle.lists.proofs.Prelude.{_≡_, _∙_, ap, ap₂, refl, List, _∷_, _++_, ℕ, zero, suc, _+_, _-_, _*_, _/_, _≤_, _<_, ltb, ltb→lt, lt→ltb, ℤ, pos, _-ℤ_}
+use Rattle.lists.proofs.Prelude.{length, getD, drop, set, replicate, length-set, lt-ltb, le-ltb, arith, tabulate}
 use Rattle.lists.proofs.Tests.{test-ext}
-use Rattle.lists.proofs.Tables.{map-tabulate, tabulate-cons, tabulate-more}
-use Rattle.matching.specs.HitsIn.{hitIn, hitsIn}
+use Rattle.lists.proofs.Tables.{tabulate-cons, tabulate-more}
 use Rattle.matching.specs.Rise.{clamp, riseOver}
 use Rattle.search_model.specs.Recent.{keptFor, foundAt}
 
@@ -27,11 +25,11 @@ rise-is at last n a b p q =
     let f : last + 1 - n ≡ suc last - n = omega arith in
     ap₂ (λ (y z : ℤ). clamp (y -ℤ z)) p (q ∙ ap at f)
 
--- ---- those of a hit array
+-- ---- one rise at every place
 
--- after i turns: the rises f over i hits are written
+-- after i turns: the first i of the rises f are written
 pub record Written (f : ℕ → ℤ) (n : ℕ) (before out : List ℤ) (i : ℕ) : Type 0 where
-  -- there are hits left, or all have been read
+  -- there are rises left, or all have been written
   pub within : i ≤ n
   -- the array is as long as it was
   pub sized : length out ≡ length before
@@ -52,25 +50,11 @@ written-next f n before out i v room h e w =
       values = ap (λ (l : List ℤ). set l i v) (w .values) ∙ tabulate-more f (pos 0) before i _ (omega arith) e;
     }
 
--- one more, stored as an i32 of the machine, which holds bits
-pub written-more : (f : ℕ → ℤ) (n : ℕ) (before out : List ℤ) (i : ℕ) (v : ℤ) → n ≤ length before → i < n → SFits w32 v → v ≡ f i
-    → Written f n before out i → Written f n before (set out i (toZ w32 (ofZ w32 v))) (i + 1)
-written-more f n before out i v room h fits e = written-next f n before out i (toZ w32 (ofZ w32 v)) room h (back-i32 fits ∙ e)
-
 -- all of them
 pub written-end : (f : ℕ → ℤ) (n : ℕ) (before out : List ℤ) (i : ℕ) → n ≤ i → Written f n before out i → out ≡ tabulate n f ++ drop n before
 written-end f n before out i h w =
     let e : i ≡ n = omega (arith, w .within) in
     rw e at (w .values)
-
--- all of them, those over hits
-pub written-all : (g : ℕ × ℕ → ℤ) (ws : List ℕ) (n : ℕ) (before out : List ℤ) (i : ℕ) → n ≤ i
-    → Written (λ j. g (hitIn ws j)) n before out i → out ≡ map g (hitsIn ws n) ++ drop n before
-unfolding hitsIn
-written-all g ws n before out i h w =
-    written-end (λ j. g (hitIn ws j)) n before out i h w ∙ ap (λ (l : List ℤ). l ++ drop n before) (sym (map-tabulate g n (hitIn ws)))
-
--- ---- one rise at every place
 
 -- a table of one value
 tabulate-one : (n : ℕ) (v : ℤ) → tabulate n (λ _. v) ≡ replicate n v

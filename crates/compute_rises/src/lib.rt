@@ -1,11 +1,8 @@
 // The rises over hits: the last value of each hit's window minus the first, clamped to the signed
 // 32-bit range. Document 02, 2.7; document 01: Forms for parts of the code.
-ghost use Rattle.lists.specs.Prelude.{_≡_, _++_, map, ℕ, suc, _+_, _*_, _≤_, _<_, ltb, _-ℤ_, length, drop, replicate};
-ghost use Rattle.pattern_set.specs.PatternSet.{patternsOf, IsSet};
-ghost use Rattle.matching.specs.HitsIn.{hitIn, hitsIn};
-ghost use Rattle.matching.specs.Rise.{clamp, riseOver, rise};
+ghost use Rattle.lists.specs.Prelude.{_≡_, _++_, suc, _+_, _*_, _≤_, _<_, ltb, pos, _-ℤ_, length, getD, drop, replicate};
+ghost use Rattle.matching.specs.Rise.{clamp, riseOver};
 ghost use Rattle.search_model.specs.Recent.{foundAt};
-ghost use Rattle.compute_rises.specs.Windows.{HasWindow};
 
 // An i32 as an i64.
 fn wide(a: i32) -> i64
@@ -59,48 +56,12 @@ pub fn rise_over(recent: &[i32; 256], taken: usize, values: &[i32], last: usize,
     difference(a, b)
 }
 
-// The rise over the hit of a pattern at its last place.
-fn rise_of(
-    set: &[u32],
-    recent: &[i32; 256],
-    taken: usize,
-    values: &[i32],
-    last: usize,
-    pattern: usize,
-) -> i32
-    requires { ⌜ IsSet (now set) ⌝ }
-    requires { ⌜ (taken ≤ 1048576) × HasWindow (patternsOf (now set)) (taken + length (now values)) (last, pattern) ⌝ }
-    ensures { λ r. ⌜ r ≡ rise (patternsOf (now (set .entry))) (foundAt taken (now (recent .entry)) (now (values .entry))) (last, pattern) ⌝ }
+// The rise over the window of n values of a text with this last place.
+pub fn rise_in(text: &[i32], last: usize, n: usize) -> i32
+    requires { ⌜ (last < length (now text)) × (0 < n) × (n ≤ suc last) ⌝ }
+    ensures { λ r. ⌜ r ≡ riseOver (λ p. getD (now (text .entry)) p (pos 0)) last n ⌝ }
 {
-    let n = set_access::pattern_length(set, pattern);
-    rise_over(recent, taken, values, last, n)
-}
-
-// The rises over the first n hits of the hit array, to the front of the second one: hit by hit, the
-// values of the call beginning at place `taken`, those before being kept in `recent`.
-pub fn write_rises(
-    set: &[u32],
-    recent: &[i32; 256],
-    taken: usize,
-    values: &[i32],
-    hits: &[u32],
-    n: usize,
-    rises: &mut [i32],
-)
-    requires { ⌜ IsSet (now set) × (taken ≤ 1048576) ⌝ }
-    requires { ⌜ (2 * n ≤ length (now hits)) × (n ≤ length (now rises)) ⌝ }
-    requires { ⌜ ((i : ℕ) → i < n → HasWindow (patternsOf (now set)) (taken + length (now values)) (hitIn (now hits) i)) ⌝ }
-    ensures { λ _. ⌜ now (rises .exit)
-        ≡ map (rise (patternsOf (now (set .entry))) (foundAt taken (now (recent .entry)) (now (values .entry)))) (hitsIn (now (hits .entry)) n)
-        ++ drop n (now (rises .entry)) ⌝ }
-{
-    let mut i = 0;
-    while i < n {
-        let last = hits[2 * i] as usize;
-        let pattern = hits[2 * i + 1] as usize;
-        rises[i] = rise_of(set, recent, taken, values, last, pattern);
-        i += 1;
-    }
+    difference(text[last], text[last + 1 - n])
 }
 
 // Puts one rise to the first n places.

@@ -1,19 +1,16 @@
 -- THE LIST OF HITS, PART BY PART: place by place and block by block from the front, and the words
--- that have been written when a part is still to come. A block that is not marked has no hit.
+-- and rises that have been written when a part is still to come. A block that is not marked has no
+-- hit.
 use Rattle.lists.proofs.Prelude.{_≡_, _∙_, ap, sym, refl, subst, ap₂, false, List, [], _∷_, _++_, map, append-nil, append-assoc, flatten, ℕ, zero, suc, min}
-use Rattle.lists.proofs.Prelude.{_+_, _-_, _*_, _/_, _≤_, _<_, ℤ, T, length, getD, take, drop, set, length-append, sets, sets-eq, add-zero, add-mul, add-one}
+use Rattle.lists.proofs.Prelude.{_+_, _-_, _*_, _/_, _≤_, _<_, ℤ, T, length, drop, set, length-append, length-map, sets, sets-eq, add-zero, add-mul, add-one}
 use Rattle.lists.proofs.Prelude.{arith, tabulate}
+use Rattle.lists.proofs.Parts.{map-append}
 use Rattle.lists.proofs.Tables.{tabulate-ext, tabulate-cons}
-use Rattle.bit_sets.specs.BitSets.{bits}
-use Rattle.bit_sets.proofs.Laws.{bits-zero}
 use Rattle.pattern_set.specs.PatternSet.{PatternSet, goodSet}
 use Rattle.matching.specs.Matching.{hitsAt, hits, hitWords}
-use Rattle.filter_plan.specs.Plan.{isHit}
-use Rattle.filter_tables.specs.Tables.{Ranks}
-use Rattle.filter_windows.specs.Looks.{SetOf}
 use Rattle.matching.proofs.HitWords.{length-hitWords, hitWords-append}
-use Rattle.filter_passes.specs.Passes.{isMarked, HitsMarked, hitsFrom, restHits, rankWords}
-use Rattle.filter_passes.proofs.Places.{hits-by-rank, hitsAt-le, hitsAt-count, none-hit}
+use Rattle.filter_passes.specs.Passes.{isMarked, HitsMarked, hitsFrom, restHits}
+use Rattle.filter_passes.proofs.Places.{hitsAt-le, hitsAt-count, none-hit}
 
 -- ---- places
 
@@ -134,55 +131,54 @@ block-pass ps text marks a block g l u e h =
     ∙ ap (λ (v : List (ℕ × ℕ)). v ++ restHits ps text (a + 64))
     (block-none ps text marks a block (min (length text) (a + 64) - a) g l u e (omega arith) (omega arith))
 
--- ---- words
+-- a place without hits
+pub rest-none : (ps : PatternSet) (text : List ℤ) (p : ℕ) → p < length text → hitsAt ps text p ≡ [] → restHits ps text p ≡ restHits ps text (p + 1)
+rest-none ps text p lt e = hits-step ps text p (length text) lt ∙ ap (λ (v : List (ℕ × ℕ)). v ++ restHits ps text (p + 1)) e
 
-sets-append : (a b l : List ℕ) (i : ℕ) → sets l i (a ++ b) ≡ sets (sets l i a) (i + length a) b
+-- ---- words and rises
+
+sets-append : {A : Type 0} (a b l : List A) (i : ℕ) → sets l i (a ++ b) ≡ sets (sets l i a) (i + length a) b
 sets-append [] b l i = ap (λ (k : ℕ). sets l k b) (sym (add-zero i))
 sets-append (x ∷ a) b l i =
     let e : suc i + length a ≡ i + length (x ∷ a) = omega arith in
     sets-append a b (set l i x) (suc i) ∙ ap (λ (k : ℕ). sets (sets (set l i x) (suc i) a) k b) e
 
--- one rank's words are written, the others are to come
-pub rank-step : (numbers : List ℕ) (p r : ℕ) (ranks rest out : List ℕ) (to : ℕ) → ranks ≡ r ∷ drop 1 ranks → rest ≡ drop 1 ranks
-    → sets (set (set out to p) (to + 1) (getD numbers r 0)) (to + 2) (rankWords numbers p rest) ≡ sets out to (rankWords numbers p ranks)
-unfolding rankWords hitWords
-rank-step numbers p r ranks rest out to e f =
-    let one : to + 1 ≡ suc to = omega arith in
-    let two : to + 2 ≡ suc (suc to) = omega arith in
-    rw (one, two, f) (sym (ap (λ (l : List ℕ). sets out to (hitWords (map (λ r. (p, getD numbers r 0)) l))) e))
+module _ (xs ys zs : List (ℕ × ℕ)) (to next : ℕ) (split : zs ≡ xs ++ ys) (n : next ≡ to + length xs) where
+  -- a part's words are written, the rest is to come
+  pub words-step : (out after : List ℕ) → after ≡ sets out (2 * to) (hitWords xs) → sets after (2 * next) (hitWords ys) ≡ sets out (2 * to) (hitWords zs)
+  words-step out after a =
+      let l = length-hitWords xs in
+      let k : 2 * next ≡ 2 * to + length (hitWords xs) = omega arith in
+      rw (a, k)
+      (sym (ap (λ (v : List (ℕ × ℕ)). sets out (2 * to) (hitWords v)) split
+      ∙ ap (sets out (2 * to)) (hitWords-append xs ys)
+      ∙ sets-append (hitWords xs) (hitWords ys) out (2 * to)))
 
-pub rank-end : (numbers out : List ℕ) (p to m : ℕ) → m ≡ 0 → sets out to (rankWords numbers p (bits m)) ≡ out
-unfolding rankWords hitWords
-rank-end numbers out p to m e = rw (e, bits-zero) refl
-
--- a part's words are written, the rest is to come
-pub words-step : (xs ys zs : List (ℕ × ℕ)) (out after ws : List ℕ) (to next : ℕ) → zs ≡ xs ++ ys → ws ≡ hitWords xs → after ≡ sets out to ws
-    → next ≡ to + 2 * length xs
-    → sets after next (hitWords ys) ≡ sets out to (hitWords zs)
-words-step xs ys zs out after ws to next e w a n =
-    let l = length-hitWords xs in
-    let k : next ≡ to + length (hitWords xs) = omega arith in
-    rw (a, w, k)
-    (sym (ap (λ (v : List (ℕ × ℕ)). sets out to (hitWords v)) e ∙ ap (sets out to) (hitWords-append xs ys) ∙ sets-append (hitWords xs) (hitWords ys) out to))
+  -- and so are the rises over its hits
+  pub rises-step : (f : ℕ × ℕ → ℤ) (out after : List ℤ) → after ≡ sets out to (map f xs) → sets after next (map f ys) ≡ sets out to (map f zs)
+  rises-step f out after a =
+      let k : next ≡ to + length (map f xs) = rw (length-map xs f) n in
+      rw (a, k)
+      (sym (ap (λ (v : List (ℕ × ℕ)). sets out to (map f v)) split
+      ∙ ap (sets out to) (map-append f xs ys)
+      ∙ sets-append (map f xs) (map f ys) out to))
 
 -- nothing is to come
 pub words-end : (zs : List (ℕ × ℕ)) (out : List ℕ) (to : ℕ) → zs ≡ [] → sets out to (hitWords zs) ≡ out
 unfolding hitWords
 words-end zs out to e = rw e refl
 
--- the words of a place's hits
-pub place-words : (ps : PatternSet) (text : List ℤ) (p : ℕ) (numbers : List ℕ) (found : ℕ) → T (goodSet ps) → Ranks ps numbers
-    → SetOf ps (isHit (take (suc p) text)) found → rankWords numbers p (bits found) ≡ hitWords (hitsAt ps text p)
-unfolding rankWords
-place-words ps text p numbers found g n s = ap hitWords (hits-by-rank ps text p numbers found g n s)
+pub rises-end : (f : ℕ × ℕ → ℤ) (zs : List (ℕ × ℕ)) (out : List ℤ) (to : ℕ) → zs ≡ [] → sets out to (map f zs) ≡ out
+rises-end f zs out to e = rw e refl
 
--- a place without hits
-pub rest-none : (ps : PatternSet) (text : List ℤ) (p : ℕ) → p < length text → hitsAt ps text p ≡ [] → restHits ps text p ≡ restHits ps text (p + 1)
-rest-none ps text p lt e = hits-step ps text p (length text) lt ∙ ap (λ (v : List (ℕ × ℕ)). v ++ restHits ps text (p + 1)) e
+-- from the front of an array
+sets-front : {A : Type 0} (vs l : List A) → length vs ≤ length l → sets l 0 vs ≡ vs ++ drop (length vs) l
+sets-front vs l h =
+    let z : 0 + length vs ≡ length vs = omega arith in
+    sets-eq vs l 0 (omega arith) ∙ ap (λ (k : ℕ). vs ++ drop k l) z
 
--- from the front of the array
 pub front-words : (zs : List (ℕ × ℕ)) (out : List ℕ) → 2 * length zs ≤ length out → sets out 0 (hitWords zs) ≡ hitWords zs ++ drop (length (hitWords zs)) out
-front-words zs out h =
-    let l = length-hitWords zs in
-    let z : 0 + length (hitWords zs) ≡ length (hitWords zs) = omega arith in
-    sets-eq (hitWords zs) out 0 (omega arith) ∙ ap (λ (k : ℕ). hitWords zs ++ drop k out) z
+front-words zs out h = sets-front (hitWords zs) out (omega (arith, length-hitWords zs))
+
+pub front-rises : (f : ℕ × ℕ → ℤ) (zs : List (ℕ × ℕ)) (out : List ℤ) → length zs ≤ length out → sets out 0 (map f zs) ≡ map f zs ++ drop (length (map f zs)) out
+front-rises f zs out h = sets-front (map f zs) out (rw (length-map zs f) h)

@@ -1,20 +1,21 @@
 -- THE PATTERNS OF A PLACE, BY RANK: the members of a set of ranks, in their order, are the patterns
 -- that pass its test in the order of the hits; so they are the place's hits, and as many as its
 -- candidates. A place without candidates has no hit, and a gap has no candidates.
-use Rattle.lists.proofs.Prelude.{_≡_, _∙_, ap, sym, refl, subst, Bool, true, false, _&&_, List, [], map, flatten, ℕ, suc, _+_, _/_, _≤_, _<_, ℤ, pos, T, ltb}
-use Rattle.lists.proofs.Prelude.{length, getD, take, length-append, length-map, decLt, arith, lt-leb, lt-ltb, le-ltb, ltb-true, tabulate, select}
+use Rattle.lists.proofs.Prelude.{_≡_, _∙_, ap, sym, refl, subst, Bool, true, false, _&&_, List, [], _∷_, map, flatten, ℕ, suc, _+_, _/_, _≤_, _<_, ℤ, pos, T}
+use Rattle.lists.proofs.Prelude.{leb, leb→le, ltb, length, getD, take, drop, length-append, length-map, length-take-le, decLt, arith, lt-leb, lt-ltb, le-ltb}
+use Rattle.lists.proofs.Prelude.{ltb-true, tabulate, select, lastOf}
 use Rattle.lists.proofs.Tests.{and-false, and-split, and-join, T-true, true-T}
 use Rattle.lists.proofs.Rows.{flatten-tabulate}
 use Rattle.lists.proofs.Members.{getD-mem, mem-getD, map-ext, map-map}
 use Rattle.lists.proofs.Select.{select-empty}
 use Rattle.lists.proofs.Counting.{length-howMany, howMany-le, howMany-all}
 use Rattle.bit_sets.specs.BitSets.{bitAt, bits}
-use Rattle.bit_sets.proofs.Laws.{mem-bits}
+use Rattle.bit_sets.proofs.Laws.{bits-zero, mem-bits}
 use Rattle.bit_sets.proofs.Digits.{bitAt-none}
 use Rattle.gaps.specs.Gaps.{isGap}
 use Rattle.pattern_set.specs.PatternSet.{PatternSet, goodSet}
 use Rattle.pattern_set.proofs.Good.{goodSet-parts}
-use Rattle.matching.specs.Matching.{lastHits, hitsAt, shortest, isCandidate, candidates}
+use Rattle.matching.specs.Matching.{hasTree, lastHits, hitsAt, shortest, isCandidate, candidates}
 use Rattle.filter_plan.specs.Plan.{hitOrder, isHit}
 use Rattle.filter_plan.proofs.HitOrder.{good-number, hitOrder-lt, length-hitOrder, lastHits-order}
 use Rattle.filter_plan.proofs.Checks.{shortest-own, hit-candidate}
@@ -23,7 +24,7 @@ use Rattle.filter_tables.specs.Tables.{ranked, Ranks}
 use Rattle.filter_tables.proofs.Lookup.{bits-ranks, ranks-order}
 use Rattle.filter_windows.specs.Looks.{SetOf}
 use Rattle.filter_windows.proofs.Samples.{since-gap, samples-fit}
-use Rattle.filter_passes.specs.Passes.{isMarked, HitsMarked, MarkedIf, candidatesBelow}
+use Rattle.filter_passes.specs.Passes.{isMarked, HitsMarked, MarkedIf, NoneFrom, candidatesBelow, rankHits}
 
 -- ---- ranks
 
@@ -31,6 +32,12 @@ use Rattle.filter_passes.specs.Passes.{isMarked, HitsMarked, MarkedIf, c
 rank-select : (ps : PatternSet) (test : List ℕ → Bool) (set : ℕ) → T (goodSet ps) → SetOf ps test set
     → select (λ j. test (getD ps j [])) (hitOrder ps) ≡ map (λ r. getD (hitOrder ps) r 0) (bits set)
 rank-select ps test set g s = sym (ap (map (λ r. getD (hitOrder ps) r 0)) (bits-ranks ps set test (goodSet-parts ps g .0) s) ∙ ranks-order ps test g)
+
+-- a rank of the set is that of a pattern of the set, which passes the test
+rank-passes : (ps : PatternSet) (test : List ℕ → Bool) (set r : ℕ) → SetOf ps test set → r < 64 → T (bitAt set r) → (r < length ps) × T (test (ranked ps r))
+rank-passes ps test set r s h t =
+    let b = and-split (ltb r (length ps)) (test (ranked ps r)) (subst T (s r h) t) in
+    (ltb-true r (length ps) (true-T (ltb r (length ps)) (b .0)), b .1)
 
 -- ---- candidates
 
@@ -87,14 +94,13 @@ no-hit ps text r g s h t =
 -- ---- marks
 
 module _ (ps : PatternSet) (text : List ℤ) (marks : List ℕ) (p : ℕ) (good : T (goodSet ps)) (before : HitsMarked ps text marks p) where
-  -- a place without candidates
-  pub marks-pass : SetOf ps (isCandidate (shortest 17 ps) (take (suc p) text)) 0 → HitsMarked ps text marks (p + 1)
-  marks-pass s q h r k t = go (decLt q p)
+  -- places without candidates
+  pub marks-skip : (n : ℕ) → NoneFrom ps text p n → HitsMarked ps text marks n
+  marks-skip n none q h r k t = go (decLt q p)
     where
       go : Dec (q < p) → T (isMarked marks (q / 64))
       go (yes l) = before q l r k t
-      go (no f) =
-          let e : q ≡ p = omega arith in absurd (no-hit ps (take (suc p) text) r good s k (subst (λ (n : ℕ). T (isHit (take (suc n) text) (ranked ps r))) e t))
+      go (no f) = absurd (no-hit ps (take (suc q) text) r good (none q (omega arith) h) k t)
 
   -- a place of a block that is marked
   pub marks-stay : T (isMarked marks (p / 64)) → HitsMarked ps text marks (p + 1)
@@ -123,24 +129,43 @@ module _ (ps : PatternSet) (text : List ℤ) (marks : List ℕ) (p : ℕ) (good 
 
 -- the hits of a place, from the set of their ranks
 pub hits-by-rank : (ps : PatternSet) (text : List ℤ) (p : ℕ) (numbers : List ℕ) (found : ℕ) → T (goodSet ps) → Ranks ps numbers
-    → SetOf ps (isHit (take (suc p) text)) found → map (λ r. (p, getD numbers r 0)) (bits found) ≡ hitsAt ps text p
-unfolding hitsAt
+    → SetOf ps (isHit (take (suc p) text)) found → rankHits numbers p (bits found) ≡ hitsAt ps text p
+unfolding hitsAt rankHits
 hits-by-rank ps text p numbers found g n s =
     let t = take (suc p) text in
     sym (ap (map (λ j. (p, j))) (lastHits-order ps t g ∙ rank-select ps (isHit t) found g s)
     ∙ map-map (λ r. getD (hitOrder ps) r 0) (λ j. (p, j)) (bits found)
     ∙ map-ext (λ r. (p, getD (hitOrder ps) r 0)) (λ r. (p, getD numbers r 0)) (bits found)
-    (λ r m. ap (λ (j : ℕ). (p, j)) (sym (n r (below r (mem-bits found r .0 m))))))
-  where
-    below : (r : ℕ) → (r < 64) × T (bitAt found r) → r < length ps
-    below r b =
-        ltb-true r (length ps)
-        (true-T (ltb r (length ps)) (and-split (ltb r (length ps)) (isHit (take (suc p) text) (ranked ps r)) (subst T (s r (b .0)) (b .1)) .0))
+    (λ r m. let b = mem-bits found r .0 m in
+    ap (λ (j : ℕ). (p, j)) (sym (n r (rank-passes ps (isHit t) found r s (b .0) (b .1) .0)))))
 
-pub hits-size : (ps : PatternSet) (text : List ℤ) (p : ℕ) (numbers : List ℕ) (found : ℕ) → T (goodSet ps) → Ranks ps numbers
-    → SetOf ps (isHit (take (suc p) text)) found → length (bits found) ≡ length (hitsAt ps text p)
-hits-size ps text p numbers found g n s =
-    sym (length-map {B = ℕ × ℕ} (bits found) (λ r. (p, getD numbers r 0))) ∙ ap length (hits-by-rank ps text p numbers found g n s)
+pub length-rankHits : (numbers : List ℕ) (p : ℕ) (ranks : List ℕ) → length (rankHits numbers p ranks) ≡ length ranks
+unfolding rankHits
+length-rankHits numbers p ranks = length-map {B = ℕ × ℕ} ranks (λ r. (p, getD numbers r 0))
+
+-- the hit of the first rank, and those of the others
+pub rank-first : (numbers : List ℕ) (p r : ℕ) (ranks rest : List ℕ) → ranks ≡ r ∷ drop 1 ranks → rest ≡ drop 1 ranks
+    → rankHits numbers p ranks ≡ (p, getD numbers r 0) ∷ rankHits numbers p rest
+unfolding rankHits
+rank-first numbers p r ranks rest e f = ap (rankHits numbers p) e ∙ ap (λ (l : List ℕ). (p, getD numbers r 0) ∷ rankHits numbers p l) (sym f)
+
+-- of an empty set there are none
+pub rank-none : (numbers : List ℕ) (p set : ℕ) → set ≡ 0 → rankHits numbers p (bits set) ≡ []
+unfolding rankHits
+rank-none numbers p set e = rw (e, bits-zero) refl
+
+-- a rank of the set of a place's hits: the number of a pattern of the set, whose window lies within
+-- the values up to the place
+pub rank-window : (ps : PatternSet) (text : List ℤ) (p : ℕ) (numbers : List ℕ) (found r : ℕ) → T (goodSet ps) → p < length text → Ranks ps numbers
+    → SetOf ps (isHit (take (suc p) text)) found → r < 64 → T (bitAt found r)
+    → (getD numbers r 0 < length ps) × (length (getD ps (getD numbers r 0) []) ≤ suc p)
+unfolding isHit
+rank-window ps text p numbers found r g lt n s h b =
+    let t = take (suc p) text in
+    let hit = rank-passes ps (isHit t) found r s h b in
+    let q = ranked ps r in
+    let within = leb→le (length q) (length t) (and-split (leb (length q) (length t)) (hasTree (lastOf (length q) t) q) (hit .1) .0) in
+    rw (n r (hit .0)) (hitOrder-lt ps r (omega (arith, hit .0, length-hitOrder ps g)), omega (arith, within, length-take-le (suc p) text lt))
 
 -- no place has more hits than there are patterns
 pub hitsAt-count : (ps : PatternSet) (text : List ℤ) (p : ℕ) → T (goodSet ps) → length (hitsAt ps text p) ≤ length ps

@@ -1,41 +1,52 @@
--- A LIST THAT IS WRITTEN PART BY PART: what has been written, with the words of the hits that are
--- still to come behind it, is the whole list.
-use Rattle.lists.proofs.Prelude.{_≡_, _∙_, ap, sym, refl, List, [], _++_, ℕ, suc, _+_, _-_, _*_, _≤_, _<_, ℤ, T, length, take, length-append, sets, length-sets}
-use Rattle.lists.proofs.Prelude.{arith}
+-- A LIST THAT IS WRITTEN PART BY PART, and the rises over its hits with it: what has been written,
+-- with the words and the rises of the hits that are still to come behind it, is the whole list.
+use Rattle.lists.proofs.Prelude.{_≡_, _∙_, ap, sym, refl, List, [], _∷_, _++_, map, ℕ, suc, _+_, _-_, _*_, _≤_, _<_, ℤ, T, length, take, set, length-append}
+use Rattle.lists.proofs.Prelude.{sets, length-sets, add-one, arith}
 use Rattle.bit_sets.specs.BitSets.{bits}
 use Rattle.pattern_set.specs.PatternSet.{PatternSet, goodSet}
-use Rattle.matching.specs.Matching.{hitsAt, hitWords}
+use Rattle.matching.specs.Matching.{hitWords}
 use Rattle.filter_plan.specs.Plan.{isHit}
 use Rattle.filter_tables.specs.Tables.{Ranks}
 use Rattle.filter_windows.specs.Looks.{SetOf}
-use Rattle.filter_passes.specs.Passes.{hitsFrom, rankWords}
-use Rattle.filter_passes.proofs.Places.{hits-size}
-use Rattle.filter_passes.proofs.Lists.{hits-step, words-step, words-end, place-words}
+use Rattle.filter_passes.specs.Passes.{hitsFrom, rankHits}
+use Rattle.filter_passes.proofs.Places.{hits-by-rank, length-rankHits}
+use Rattle.filter_passes.proofs.Lists.{hits-step, words-step, words-end, rises-step, rises-end}
 
--- `all` is written to `old` from the word `at` on; so far this has given `out`, the next word is
--- `to`, and `rest` is to come
-pub record Written (old out : List ℕ) (at to : ℕ) (all rest : List (ℕ × ℕ)) : Type 0 where
-  -- the array has kept its length
+-- `all` is written to `old` from hit `at` on, and the rises f over its hits to `oldRises`; so far
+-- this has given `out` and `rises`, the next hit is `to`, and `rest` is to come
+pub record Written (f : ℕ × ℕ → ℤ) (old out : List ℕ) (oldRises rises : List ℤ) (at to : ℕ) (all rest : List (ℕ × ℕ)) : Type 0 where
+  -- the arrays have kept their lengths
   pub size : length out ≡ length old
-  -- two words for each hit that is written
-  pub next : to + 2 * length rest ≡ at + 2 * length all
+  pub risesSize : length rises ≡ length oldRises
+  -- each hit is written or to come
+  pub next : to + length rest ≡ at + length all
   -- with the words that are to come it is the array with the whole list
-  pub words : sets out to (hitWords rest) ≡ sets old at (hitWords all)
+  pub words : sets out (2 * to) (hitWords rest) ≡ sets old (2 * at) (hitWords all)
+  -- and with the rises that are to come the one with all rises
+  pub risen : sets rises to (map f rest) ≡ sets oldRises at (map f all)
 
-pub written-start : (old : List ℕ) (at : ℕ) (all : List (ℕ × ℕ)) → Written old old at at all all
-written-start old at all = record { size = refl; next = refl; words = refl }
+pub written-start : (f : ℕ × ℕ → ℤ) (old : List ℕ) (oldRises : List ℤ) (at : ℕ) (all : List (ℕ × ℕ)) → Written f old old oldRises oldRises at at all all
+written-start f old oldRises at all = record { size = refl; risesSize = refl; next = refl; words = refl; risen = refl }
 
-module _ (old out : List ℕ) (at to : ℕ) (all rest : List (ℕ × ℕ)) (before : Written old out at to all rest) where
+module _ (f : ℕ × ℕ → ℤ) (old out : List ℕ) (oldRises rises : List ℤ) (at to : ℕ) (all rest : List (ℕ × ℕ))
+    (before : Written f old out oldRises rises at to all rest) where
   -- nothing is to come
-  pub written-end : rest ≡ [] → (to ≡ at + 2 * length all) × (out ≡ sets old at (hitWords all))
-  written-end e = (omega (arith, before .next, ap length e), sym (words-end rest out to e) ∙ before .words)
+  pub written-end : rest ≡ [] → (to ≡ at + length all) × (out ≡ sets old (2 * at) (hitWords all)) × (rises ≡ sets oldRises at (map f all))
+  written-end e = (
+    omega (arith, before .next, ap length e),
+    sym (words-end rest out (2 * to) e) ∙ before .words,
+    sym (rises-end f rest rises to e) ∙ before .risen,
+  )
 
   -- nothing was to be written
-  pub written-none : (out' : List ℕ) (to' : ℕ) (rest' : List (ℕ × ℕ)) → rest ≡ rest' → out' ≡ out → to' ≡ to → Written old out' at to' all rest'
-  written-none out' to' rest' e o t = record {
+  pub written-none : (out' : List ℕ) (rises' : List ℤ) (to' : ℕ) (rest' : List (ℕ × ℕ)) → rest ≡ rest' → out' ≡ out → rises' ≡ rises → to' ≡ to
+      → Written f old out' oldRises rises' at to' all rest'
+  written-none out' rises' to' rest' e o r t = record {
     size = ap length o ∙ before .size;
+    risesSize = ap length r ∙ before .risesSize;
     next = omega (arith, t, before .next, ap length e);
     words = rw (o, t, ← e) (before .words);
+    risen = rw (r, t, ← e) (before .risen);
   }
 
   module _ (part rest' : List (ℕ × ℕ)) (split : rest ≡ part ++ rest') where
@@ -43,47 +54,59 @@ module _ (old out : List ℕ) (at to : ℕ) (all rest : List (ℕ × ℕ)) (befo
     lengths = ap length split ∙ length-append part rest'
 
     -- there is room for the next part
-    pub written-room : at + 2 * length all ≤ length old → to + 2 * length part ≤ length out
-    written-room h = omega (arith, h, lengths, before .next, before .size)
+    pub written-room : 2 * (at + length all) ≤ length old → at + length all ≤ length oldRises
+        → (2 * (to + length part) ≤ length out) × (to + length part ≤ length rises)
+    written-room h k =
+        (omega (arith, h, lengths, before .next, before .size), omega (arith, k, lengths, before .next, before .risesSize))
 
     -- a part is written
-    pub written-part : (ws out' : List ℕ) (to' : ℕ) → ws ≡ hitWords part → out' ≡ sets out to ws → to' ≡ to + 2 * length part
-        → Written old out' at to' all rest'
-    written-part ws out' to' w o t = record {
-      size = ap length o ∙ length-sets out to ws ∙ before .size;
+    pub written-part : (out' : List ℕ) (rises' : List ℤ) (to' : ℕ) → out' ≡ sets out (2 * to) (hitWords part) → rises' ≡ sets rises to (map f part)
+        → to' ≡ to + length part → Written f old out' oldRises rises' at to' all rest'
+    written-part out' rises' to' o r t = record {
+      size = ap length o ∙ length-sets out (2 * to) (hitWords part) ∙ before .size;
+      risesSize = ap length r ∙ length-sets rises to (map f part) ∙ before .risesSize;
       next = omega (arith, t, lengths, before .next);
-      words = words-step part rest' rest out out' ws to to' split w o t ∙ before .words;
+      words = words-step part rest' rest to to' split t out out' o ∙ before .words;
+      risen = rises-step part rest' rest to to' split t f rises rises' r ∙ before .risen;
     }
+
+  -- one hit is written, as two words, and the rise v over it
+  pub written-hit : (h : ℕ × ℕ) (v : ℤ) (rest' : List (ℕ × ℕ)) → rest ≡ h ∷ rest' → v ≡ f h
+      → Written f old (set (set out (2 * to) (h .0)) (2 * to + 1) (h .1)) oldRises (set rises to v) at (to + 1) all rest'
+  unfolding hitWords
+  written-hit h v rest' e q =
+      written-part (h ∷ []) rest' e _ _ (to + 1) (ap (λ (k : ℕ). set (set out (2 * to) (h .0)) k (h .1)) (add-one (2 * to)))
+      (ap (set rises to) q) refl
 
 -- ---- the hits of one place
 
 -- place p of those up to end, where `found` has the patterns that have a hit there
 module _ (ps : PatternSet) (text : List ℤ) (p end : ℕ) (lt : p < end) (good : T (goodSet ps)) (numbers : List ℕ) (found : ℕ)
     (ranks : Ranks ps numbers) (hit : SetOf ps (isHit (take (suc p) text)) found) where
-  -- the hits from p on, and those behind p
+  -- the hits from p on, those of p, and those behind p
   abbrev from : List (ℕ × ℕ)
   from = hitsFrom ps text p (end - p)
+
+  abbrev here : List (ℕ × ℕ)
+  here = rankHits numbers p (bits found)
 
   abbrev behind : List (ℕ × ℕ)
   behind = hitsFrom ps text (p + 1) (end - (p + 1))
 
-  found-size : length (bits found) ≡ length (hitsAt ps text p)
-  found-size = hits-size ps text p numbers found good ranks hit
+  place-split : from ≡ here ++ behind
+  place-split = hits-step ps text p end lt ∙ ap (λ (v : List (ℕ × ℕ)). v ++ behind) (sym (hits-by-rank ps text p numbers found good ranks hit))
 
   pub place-length : length from ≡ length (bits found) + length behind
-  place-length =
-      ap length (hits-step ps text p end lt)
-      ∙ length-append (hitsAt ps text p) behind
-      ∙ ap (λ (n : ℕ). n + length behind) (sym found-size)
+  place-length = ap length place-split ∙ length-append here behind ∙ ap (λ (n : ℕ). n + length behind) (length-rankHits numbers p (bits found))
 
-  module _ (old out : List ℕ) (at to : ℕ) (all : List (ℕ × ℕ)) (before : Written old out at to all from) where
-    pub place-room : at + 2 * length all ≤ length old → to + 2 * length (bits found) ≤ length out
-    place-room h =
-        let room = written-room old out at to all from before (hitsAt ps text p) behind (hits-step ps text p end lt) h in
-        omega (arith, room, found-size)
+  module _ (f : ℕ × ℕ → ℤ) (old out : List ℕ) (oldRises rises : List ℤ) (at to : ℕ) (all : List (ℕ × ℕ))
+      (before : Written f old out oldRises rises at to all from) where
+    pub place-room : 2 * (at + length all) ≤ length old → at + length all ≤ length oldRises
+        → (2 * (to + length (bits found)) ≤ length out) × (to + length (bits found) ≤ length rises)
+    place-room h k = rw (length-rankHits numbers p (bits found)) at (written-room f old out oldRises rises at to all from before here behind place-split h k)
 
-    pub place-written : (out' : List ℕ) (to' : ℕ) → out' ≡ sets out to (rankWords numbers p (bits found)) → to' ≡ to + 2 * length (bits found)
-        → Written old out' at to' all behind
-    place-written out' to' o t =
-        written-part old out at to all from before (hitsAt ps text p) behind (hits-step ps text p end lt) (rankWords numbers p (bits found)) out' to'
-        (place-words ps text p numbers found good ranks hit) o (omega (arith, t, found-size))
+    pub place-written : (out' : List ℕ) (rises' : List ℤ) (to' : ℕ) → out' ≡ sets out (2 * to) (hitWords here) → rises' ≡ sets rises to (map f here)
+        → to' ≡ to + length (bits found) → Written f old out' oldRises rises' at to' all behind
+    place-written out' rises' to' o r t =
+        written-part f old out oldRises rises at to all from before here behind place-split out' rises' to' o r
+        (omega (arith, t, length-rankHits numbers p (bits found)))

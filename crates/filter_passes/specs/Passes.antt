@@ -1,10 +1,11 @@
 -- What the passes of a filter search find, and what they leave behind.
-use Rattle.lists.specs.Prelude.{_≡_, Bool, List, map, flatten, ℕ, suc, _+_, _-_, _/_, _%_, _<_, T, ℤ, length, getD, take, tabulate, select}
+use Rattle.lists.specs.Prelude.{_≡_, Bool, List, map, flatten, ℕ, suc, _+_, _-_, _/_, _%_, _≤_, _<_, T, ℤ, length, getD, take, tabulate, select}
 use Rattle.bit_sets.specs.BitSets.{bitAt}
 use Rattle.pattern_set.specs.PatternSet.{PatternSet}
-use Rattle.matching.specs.Matching.{hitsAt, hitWords, shortest, isCandidate}
-use Rattle.filter_plan.specs.Plan.{isHit}
+use Rattle.matching.specs.Matching.{hitsAt, shortest, isCandidate}
+use Rattle.filter_plan.specs.Plan.{textFingerprint, isHit}
 use Rattle.filter_tables.specs.Tables.{ranked}
+use Rattle.filter_windows.specs.Looks.{Since, SetOf}
 
 -- ---- marks: a bit for each block of 64 places
 
@@ -22,6 +23,17 @@ pub record MarkedIf (before after : List ℕ) (p found : ℕ) : Type 0 where
   pub noneLost : (block : ℕ) → T (isMarked before block) → T (isMarked after block)
   pub marked : (r : ℕ) → r < 64 → T (bitAt found r) → T (isMarked after (p / 64))
 
+-- ---- places
+
+-- a pass stands before place p: own is the fingerprint of the last 17 values up to p, where the
+-- text has it, and the samples before p begin at the place begin
+abbrev pub Stands : List ℤ → ℕ → ℕ → ℕ → Type 0
+Stands text p own begin = (p ≤ length text) × (p < length text → own ≡ textFingerprint 17 (take (suc p) text)) × Since text p begin
+
+-- the places from p on to before q have no candidates
+abbrev pub NoneFrom : PatternSet → List ℤ → ℕ → ℕ → Type 0
+NoneFrom ps text p q = (i : ℕ) → p ≤ i → i < q → SetOf ps (isCandidate (shortest 17 ps) (take (suc i) text)) 0
+
 -- ---- counts and lists
 
 -- the candidates with last place below n
@@ -36,6 +48,6 @@ hitsFrom ps text a n = flatten (tabulate n (λ i. hitsAt ps text (a + i)))
 abbrev pub restHits : PatternSet → List ℤ → ℕ → List (ℕ × ℕ)
 restHits ps text a = hitsFrom ps text a (length text - a)
 
--- the words that a set of ranks at place p puts into the list
-unfoldable pub rankWords : List ℕ → ℕ → List ℕ → List ℕ
-rankWords numbers p ranks = hitWords (map (λ r. (p, getD numbers r 0)) ranks)
+-- the hits of the patterns of these ranks at place p
+unfoldable pub rankHits : List ℕ → ℕ → List ℕ → List (ℕ × ℕ)
+rankHits numbers p ranks = map (λ r. (p, getD numbers r 0)) ranks

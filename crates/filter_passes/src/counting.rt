@@ -4,11 +4,12 @@ ghost use Rattle.lists.specs.Prelude.{_≡_, suc, _+_, _≤_, _<_, length, take
 ghost use Rattle.pattern_set.specs.PatternSet.{patternsOf, IsSet};
 ghost use Rattle.matching.specs.Matching.{shortest, isCandidate, candidates};
 ghost use Rattle.filter_plan.specs.Plan.{textFingerprint};
-ghost use Rattle.filter_tables.specs.Tables.{TableOf, ownLow, ownHigh};
+ghost use Rattle.filter_tables.specs.Tables.{TableOf, ownLow, ownHigh, fitsAt};
 ghost use Rattle.filter_windows.specs.Looks.{SetOf, SetTables, CheckTables, HitTables};
 ghost use Rattle.filter_passes.specs.Passes.{HitsMarked};
 use crate::marks::is_marked;
 use crate::marks::mark_if;
+use crate::scanning::next_stop;
 
 // Looks at place p, of which the candidates are known: marks its block if a pattern has a hit
 // there. A block that is marked needs no look.
@@ -20,6 +21,7 @@ fn look_at(
     candidates: u64,
     ownlow: &[u64; 256],
     ownhigh: &[u64; 256],
+    fits: &[u64; 256],
     numbers: &[u32; 64],
     equal: &[u64; 64],
     checks: &[u32],
@@ -29,6 +31,7 @@ fn look_at(
     requires { ⌜ (p < length (now text)) × (length (now text) ≤ 1048576) × (own ≡ textFingerprint 17 (take (suc p) (now text))) ⌝ }
     requires { ⌜ SetOf (patternsOf (now set)) (isCandidate (shortest 17 (patternsOf (now set))) (take (suc p) (now text))) candidates ⌝ }
     requires { ⌜ TableOf (patternsOf (now set)) ownLow (now ownlow) × TableOf (patternsOf (now set)) ownHigh (now ownhigh) ⌝ }
+    requires { ⌜ TableOf (patternsOf (now set)) fitsAt (now fits) ⌝ }
     requires { ⌜ CheckTables (patternsOf (now set)) (now numbers) (now equal) (now checks) ⌝ }
     requires { ⌜ HitsMarked (patternsOf (now set)) (now text) (now marks) p × (length (now marks) ≡ 256) ⌝ }
     ensures { λ _. ⌜ HitsMarked (patternsOf (now (set .entry))) (now (text .entry)) (now (marks .exit)) (p + 1) × (length (now (marks .exit)) ≡ 256) ⌝ }
@@ -42,6 +45,7 @@ fn look_at(
             candidates,
             ownlow,
             ownhigh,
+            fits,
             numbers,
             equal,
             checks,
@@ -50,11 +54,8 @@ fn look_at(
     }
 }
 
-// The candidates of the text. own is the fingerprint of the last 17 values up to place p; its
-// lowest bits are the set fingerprint. Of the first value alone it is 0; at the end of a turn it is
-// rolled on to the next place, where there is one. begin is kept, where the samples behind the last
-// gap begin. At a gap no window fits, so nothing is looked up. A pattern with a hit is a candidate,
-// so a place whose set fingerprint no pattern has is passed by.
+// The candidates of the text. Between two places that may have candidates nothing is done but the
+// look for the next. A pattern with a hit is a candidate, so the places between them have no hit.
 fn count_candidates(
     set: &[u32],
     text: &[i32],
@@ -77,43 +78,34 @@ fn count_candidates(
     ensures { λ _. ⌜ HitsMarked (patternsOf (now (set .entry))) (now (text .entry)) (now (marks .exit)) (length (now (text .entry))) ⌝ }
 {
     let b = filter_tables::shortest_length(set);
-    let n = text.len();
     let mut own = 0;
     let mut begin = 0;
     let mut count = 0;
     let mut p = 0;
-    while p < n {
-        if gaps::is_gap(text, p) {
-            begin = p + 1;
-        } else {
-            let fingerprint = filter_windows::set_fingerprint(own, b);
-            let alike = filter_windows::by_set_fingerprint(setlow, sethigh, fingerprint);
-            if alike != 0 {
-                let here = filter_windows::fitting(alike, fits, p + 1 - begin);
-                count += bit_sets::size(here);
-                look_at(
-                    set,
-                    text,
-                    p,
-                    own,
-                    here,
-                    ownlow,
-                    ownhigh,
-                    numbers,
-                    equal,
-                    checks,
-                    marks,
-                );
-            }
+    loop {
+        let s = next_stop(set, text, b, setlow, sethigh, fits, p, own, begin);
+        if text.len() <= s.place {
+            return count;
         }
-        p += 1;
-        if n <= p {
-            break;
-        }
-        let bit = filter_windows::new_bit(text, p);
-        own = filter_windows::roll(own, bit, 17);
+        count += bit_sets::size(s.candidates);
+        look_at(
+            set,
+            text,
+            s.place,
+            s.own,
+            s.candidates,
+            ownlow,
+            ownhigh,
+            fits,
+            numbers,
+            equal,
+            checks,
+            marks,
+        );
+        p = s.place + 1;
+        own = filter_windows::own_at(text, p, s.own);
+        begin = s.begin;
     }
-    count
 }
 
 // The first pass, for which the tables of the set fingerprint are filled: the candidates of the

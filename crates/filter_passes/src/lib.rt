@@ -4,4 +4,5 @@
 pub mod counting;
 pub mod listing;
 mod marks;
+mod scanning;
 pub mod single;

@@ -1,11 +1,15 @@
-// The second pass, over the marked blocks only: it counts the hits, or writes them.
+// The second pass, over the marked blocks only: it counts the hits, or writes them and the rises
+// over them.
 ghost use lib.Seq.{sets};
-ghost use Rattle.lists.specs.Prelude.{_≡_, min, _+_, _-_, _*_, _≤_, _<_, length};
+ghost use Rattle.lists.specs.Prelude.{_≡_, map, suc, min, _+_, _-_, _*_, _≤_, _<_, length, take};
 ghost use Rattle.bit_sets.specs.BitSets.{bits};
 ghost use Rattle.pattern_set.specs.PatternSet.{patternsOf, IsSet};
 ghost use Rattle.matching.specs.Matching.{hits, hitWords};
-ghost use Rattle.filter_windows.specs.Looks.{Since, HitTables};
-ghost use Rattle.filter_passes.specs.Passes.{HitsMarked, hitsFrom, rankWords};
+ghost use Rattle.matching.specs.Rise.{riseIn};
+ghost use Rattle.filter_plan.specs.Plan.{isHit};
+ghost use Rattle.filter_tables.specs.Tables.{Ranks};
+ghost use Rattle.filter_windows.specs.Looks.{SetOf, Since, HitTables};
+ghost use Rattle.filter_passes.specs.Passes.{HitsMarked, hitsFrom, rankHits};
 use crate::marks::is_marked;
 
 // The place behind the last one of the block that begins at the place first, in a text of n values.
@@ -123,39 +127,57 @@ pub fn count_hits(
     count
 }
 
-// Writes the hits of a set of ranks at place p, from the word at on; tells the word behind them.
+// Writes the hits of a set of ranks at place p and the rises over them, from hit `at` on; tells the
+// hit behind them. Patterns of one length have the same rise at a place, so it is computed only
+// where the length is another than that of the hit before.
 pub(crate) fn write_place(
+    set: &[u32],
+    text: &[i32],
     numbers: &[u32; 64],
     found: u64,
     p: usize,
     out: &mut [u32],
+    rises: &mut [i32],
     at: usize,
 ) -> usize
-    requires { ⌜ (p < 1048576) × (at + 2 * length (bits found) ≤ length (now out)) ⌝ }
-    ensures { λ r. ⌜ r ≡ at + 2 * length (bits found) ⌝ }
-    ensures { λ _. ⌜ now (out .exit) ≡ sets (now (out .entry)) at (rankWords (now (numbers .entry)) p (bits found)) ⌝ }
+    requires { ⌜ IsSet (now set) ⌝ }
+    requires { ⌜ (p < length (now text)) × (length (now text) ≤ 1048576) ⌝ }
+    requires { ⌜ Ranks (patternsOf (now set)) (now numbers) × SetOf (patternsOf (now set)) (isHit (take (suc p) (now text))) found ⌝ }
+    requires { ⌜ (2 * (at + length (bits found)) ≤ length (now out)) × (at + length (bits found) ≤ length (now rises)) ⌝ }
+    ensures { λ r. ⌜ r ≡ at + length (bits found) ⌝ }
+    ensures { λ _. ⌜ now (out .exit) ≡ sets (now (out .entry)) (2 * at) (hitWords (rankHits (now (numbers .entry)) p (bits found))) ⌝ }
+    ensures { λ _. ⌜ now (rises .exit) ≡ sets (now (rises .entry)) at
+        (map (riseIn (patternsOf (now (set .entry))) (now (text .entry))) (rankHits (now (numbers .entry)) p (bits found))) ⌝ }
 {
     let mut rest = found;
     let mut to = at;
+    let mut last = 0;
+    let mut rise = 0;
     while rest != 0 {
         let r = bit_sets::lowest(rest);
-        out[to] = p as u32;
-        out[to + 1] = numbers[r];
+        let j = numbers[r];
+        let m = set_access::pattern_length(set, casts::wide(j));
+        if m != last {
+            rise = compute_rises::rise_in(text, p, m);
+            last = m;
+        }
+        out[2 * to] = p as u32;
+        out[2 * to + 1] = j;
+        rises[to] = rise;
         rest = bit_sets::without_lowest(rest);
-        to += 2;
+        to += 1;
     }
     to
 }
 
-// The word behind the hits of a block, and where the samples behind the last gap up to its end
-// begin.
+// The hit behind those of a block, and where the samples behind the last gap up to its end begin.
 struct Listed {
     to: usize,
     begin: usize,
 }
 
-// Writes the hits of the places from first to end, from the word at on; tells the word behind them.
-// begin is where the samples behind the last gap before first begin.
+// Writes the hits of the places from first to end and the rises over them, from hit `at` on; tells
+// the hit behind them. begin is where the samples behind the last gap before first begin.
 fn write_block(
     set: &[u32],
     text: &[i32],
@@ -169,15 +191,20 @@ fn write_block(
     equal: &[u64; 64],
     checks: &[u32],
     out: &mut [u32],
+    rises: &mut [i32],
     at: usize,
 ) -> Listed
     requires { ⌜ IsSet (now set) ⌝ }
     requires { ⌜ (first ≤ end) × (end ≤ length (now text)) × (length (now text) ≤ 1048576) × Since (now text) first begin ⌝ }
     requires { ⌜ HitTables (patternsOf (now set)) (now ownlow) (now ownhigh) (now fits) (now numbers) (now equal) (now checks) ⌝ }
-    requires { ⌜ at + 2 * length (hitsFrom (patternsOf (now set)) (now text) first (end - first)) ≤ length (now out) ⌝ }
-    ensures { λ r. ⌜ r .to ≡ at + 2 * length (hitsFrom (patternsOf (now (set .entry))) (now (text .entry)) first (end - first)) ⌝ }
-    ensures { λ _. ⌜ now (out .exit) ≡ sets (now (out .entry)) at
+    requires { ⌜ 2 * (at + length (hitsFrom (patternsOf (now set)) (now text) first (end - first))) ≤ length (now out) ⌝ }
+    requires { ⌜ at + length (hitsFrom (patternsOf (now set)) (now text) first (end - first)) ≤ length (now rises) ⌝ }
+    ensures { λ r. ⌜ r .to ≡ at + length (hitsFrom (patternsOf (now (set .entry))) (now (text .entry)) first (end - first)) ⌝ }
+    ensures { λ _. ⌜ now (out .exit) ≡ sets (now (out .entry)) (2 * at)
         (hitWords (hitsFrom (patternsOf (now (set .entry))) (now (text .entry)) first (end - first))) ⌝ }
+    ensures { λ _. ⌜ now (rises .exit) ≡ sets (now (rises .entry)) at
+        (map (riseIn (patternsOf (now (set .entry))) (now (text .entry)))
+        (hitsFrom (patternsOf (now (set .entry))) (now (text .entry)) first (end - first))) ⌝ }
     ensures { λ r. ⌜ Since (now (text .entry)) end (r .begin) ⌝ }
 {
     let mut own = filter_windows::fingerprint_before(text, first);
@@ -200,15 +227,15 @@ fn write_block(
             equal,
             checks,
         );
-        to = write_place(numbers, found, p, out, to);
+        to = write_place(set, text, numbers, found, p, out, rises, to);
         p += 1;
     }
     Listed { to, begin: since }
 }
 
-// Writes the hits of the text to the front of the array, which is long enough; tells how many words
-// they are. Where the samples behind the last gap begin is kept for the place done, the one behind
-// the last block that was looked at.
+// Writes the hits of the text and the rises over them to the fronts of two arrays, which are long
+// enough; tells how many they are. Where the samples behind the last gap begin is kept for the
+// place done, the one behind the last block that was looked at.
 pub fn write_hits(
     set: &[u32],
     text: &[i32],
@@ -220,14 +247,18 @@ pub fn write_hits(
     equal: &[u64; 64],
     checks: &[u32],
     out: &mut [u32],
+    rises: &mut [i32],
 ) -> usize
     requires { ⌜ IsSet (now set) ⌝ }
     requires { ⌜ length (now text) ≤ 1048576 ⌝ }
     requires { ⌜ HitsMarked (patternsOf (now set)) (now text) (now marks) (length (now text)) ⌝ }
     requires { ⌜ HitTables (patternsOf (now set)) (now ownlow) (now ownhigh) (now fits) (now numbers) (now equal) (now checks) ⌝ }
     requires { ⌜ 2 * length (hits (patternsOf (now set)) (now text)) ≤ length (now out) ⌝ }
-    ensures { λ r. ⌜ r ≡ 2 * length (hits (patternsOf (now (set .entry))) (now (text .entry))) ⌝ }
+    requires { ⌜ length (hits (patternsOf (now set)) (now text)) ≤ length (now rises) ⌝ }
+    ensures { λ r. ⌜ r ≡ length (hits (patternsOf (now (set .entry))) (now (text .entry))) ⌝ }
     ensures { λ _. ⌜ now (out .exit) ≡ sets (now (out .entry)) 0 (hitWords (hits (patternsOf (now (set .entry))) (now (text .entry)))) ⌝ }
+    ensures { λ _. ⌜ now (rises .exit) ≡ sets (now (rises .entry)) 0
+        (map (riseIn (patternsOf (now (set .entry))) (now (text .entry))) (hits (patternsOf (now (set .entry))) (now (text .entry)))) ⌝ }
 {
     let n = text.len();
     let mut to = 0;
@@ -251,6 +282,7 @@ pub fn write_hits(
                 equal,
                 checks,
                 out,
+                rises,
                 to,
             );
             to = listed.to;

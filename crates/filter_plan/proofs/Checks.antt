@@ -7,9 +7,10 @@ use Rattle.lists.proofs.Prelude.{le-trans, min-le-left, le-min, min-le-right, l
 use Rattle.lists.proofs.Tests.{and-split, and-join, test-ext}
 use Rattle.lists.proofs.Parts.{lastOf-lastOf}
 use Rattle.gaps.specs.Gaps.{holdsGap}
-use Rattle.cartesian.specs.Cartesian.{tree}
+use Rattle.cartesian.specs.Cartesian.{tree, treeOf}
+use Rattle.cartesian.proofs.Structure.{treeDistances}
 use Rattle.realization.specs.Realization.{realizable, leastRealization}
-use Rattle.realization.proofs.LeastRealization.{least-distances, least-tree, length-least}
+use Rattle.realization.proofs.LeastRealization.{treeDistances-treeOf, least-distances, least-tree, length-least}
 use Rattle.global_parents.specs.Passes.{passes}
 use Rattle.global_parents.proofs.Passes.{passes-iff}
 use Rattle.fingerprint.specs.Fingerprint.{fingerprint}
@@ -63,6 +64,15 @@ hit-fits text p t =
     let w = lastOf (length p) text in
     and-join (leb (length p) (length text)) (not (holdsGap w)) (and-split (leb (length p) (length text)) (hasTree w p) t .0)
     (passed-not (holdsGap w) (hasTree-whole w p (hit-tree text p t)))
+
+-- patterns of one length that have a hit are equal: they have the tree of one window
+pub hits-equal : (text : List ℤ) (p q : List ℕ) → T (realizable p) → T (realizable q) → length p ≡ length q → T (isHit text p) → T (isHit text q) → p ≡ q
+hits-equal text p q r s e t u =
+    let one : treeOf p ≡ treeOf q =
+    sym (hasTree-tree (lastOf (length p) text) p (hit-tree text p t))
+    ∙ ap (λ (m : ℕ). tree (lastOf m text)) e
+    ∙ hasTree-tree (lastOf (length q) text) q (hit-tree text q u) in
+    sym (treeDistances-treeOf p r) ∙ ap treeDistances one ∙ treeDistances-treeOf q s
 
 -- the fingerprints of a hit are equal
 pub hit-fingerprint : (b : ℕ) (text : List ℤ) (p : List ℕ) → b ≤ length p → T (realizable p) → T (isHit text p)

@@ -1,14 +1,12 @@
 // The filter search. Document 01: A tail search. Document 02, 2.6 and 2.7.
-ghost use Rattle.lists.specs.Prelude.{_≡_, _++_, map, _*_, _≤_, T, leb, length, drop};
+ghost use Rattle.lists.specs.Prelude.{_≡_, _*_, _≤_, T, leb, length};
 ghost use Rattle.answers.specs.Told.{toldFiltered};
 ghost use Rattle.pattern_set.specs.PatternSet.{patternsOf, IsSet, maySearch};
 ghost use Rattle.matching.specs.Matching.{hits, candidates};
-ghost use Rattle.matching.specs.HitsIn.{hitsIn};
-ghost use Rattle.matching.specs.Rise.{riseIn};
 ghost use Rattle.entries.specs.Entries.{told, after, filterEntry, filterRises};
 ghost use Rattle.filter_windows.specs.Looks.{HitTables};
 ghost use Rattle.filter_passes.specs.Passes.{HitsMarked};
-ghost use Rattle.filter_search.specs.Search.{foundEntry};
+ghost use Rattle.filter_search.specs.Search.{foundEntry, foundRises};
 use answers::Filtered;
 use answers::Refusal;
 use answers::SetSize;
@@ -54,7 +52,7 @@ fn list_fits(
     2 * found <= room
 }
 
-// Writes the list of hits if it fits.
+// Writes the list of hits and the rises over them if it fits.
 fn list_hits(
     set: &[u32],
     text: &[i32],
@@ -67,13 +65,16 @@ fn list_hits(
     equal: &[u64; 64],
     checks: &[u32],
     out: &mut [u32],
+    rises: &mut [i32],
 ) -> Filtered
     requires { ⌜ IsSet (now set) ⌝ }
-    requires { ⌜ (length (now text) ≤ 1048576) × (count ≡ candidates (patternsOf (now set)) (now text)) × (count ≤ 67108864) ⌝ }
+    requires { ⌜ (length (now text) ≤ 1048576) × (length (now out) ≤ 2 * length (now rises)) ⌝ }
+    requires { ⌜ (count ≡ candidates (patternsOf (now set)) (now text)) × (count ≤ 67108864) ⌝ }
     requires { ⌜ HitsMarked (patternsOf (now set)) (now text) (now marks) (length (now text)) ⌝ }
     requires { ⌜ HitTables (patternsOf (now set)) (now ownlow) (now ownhigh) (now fits) (now numbers) (now equal) (now checks) ⌝ }
     ensures { λ r. ⌜ toldFiltered r ≡ told (0, 0) (foundEntry (patternsOf (now (set .entry))) (now (text .entry)) (now (out .entry))) ⌝ }
     ensures { λ _. ⌜ now (out .exit) ≡ after (foundEntry (patternsOf (now (set .entry))) (now (text .entry)) (now (out .entry))) (now (out .entry)) ⌝ }
+    ensures { λ _. ⌜ now (rises .exit) ≡ after (foundRises (patternsOf (now (set .entry))) (now (text .entry)) (now (out .entry))) (now (rises .entry)) ⌝ }
 {
     let room = out.len();
     if !list_fits(
@@ -91,7 +92,7 @@ fn list_hits(
     ) {
         return Filtered::Refused(Refusal::ListTooLong);
     }
-    let words = listing::write_hits(
+    let found = listing::write_hits(
         set,
         text,
         marks,
@@ -102,8 +103,9 @@ fn list_hits(
         equal,
         checks,
         out,
+        rises,
     );
-    Filtered::Found(words / 2, count)
+    Filtered::Found(found, count)
 }
 
 // Two passes, for any array: one counts the candidates and marks the blocks that have hits, one
@@ -118,12 +120,14 @@ fn two_passes(
     equal: &[u64; 64],
     checks: &[u32],
     out: &mut [u32],
+    rises: &mut [i32],
 ) -> Filtered
     requires { ⌜ IsSet (now set) ⌝ }
-    requires { ⌜ length (now text) ≤ 1048576 ⌝ }
+    requires { ⌜ (length (now text) ≤ 1048576) × (length (now out) ≤ 2 * length (now rises)) ⌝ }
     requires { ⌜ HitTables (patternsOf (now set)) (now ownlow) (now ownhigh) (now fits) (now numbers) (now equal) (now checks) ⌝ }
     ensures { λ r. ⌜ toldFiltered r ≡ told (0, 0) (foundEntry (patternsOf (now (set .entry))) (now (text .entry)) (now (out .entry))) ⌝ }
     ensures { λ _. ⌜ now (out .exit) ≡ after (foundEntry (patternsOf (now (set .entry))) (now (text .entry)) (now (out .entry))) (now (out .entry)) ⌝ }
+    ensures { λ _. ⌜ now (rises .exit) ≡ after (foundRises (patternsOf (now (set .entry))) (now (text .entry)) (now (out .entry))) (now (rises .entry)) ⌝ }
 {
     let mut marks = [0u64; 256];
     let count = counting::first_pass(
@@ -149,6 +153,7 @@ fn two_passes(
         equal,
         checks,
         out,
+        rises,
     )
 }
 
@@ -173,12 +178,14 @@ fn search_by(
     equal: &[u64; 64],
     checks: &[u32],
     out: &mut [u32],
+    rises: &mut [i32],
 ) -> Filtered
     requires { ⌜ IsSet (now set) ⌝ }
-    requires { ⌜ length (now text) ≤ 1048576 ⌝ }
+    requires { ⌜ (length (now text) ≤ 1048576) × (length (now out) ≤ 2 * length (now rises)) ⌝ }
     requires { ⌜ HitTables (patternsOf (now set)) (now ownlow) (now ownhigh) (now fits) (now numbers) (now equal) (now checks) ⌝ }
     ensures { λ r. ⌜ toldFiltered r ≡ told (0, 0) (foundEntry (patternsOf (now (set .entry))) (now (text .entry)) (now (out .entry))) ⌝ }
     ensures { λ _. ⌜ now (out .exit) ≡ after (foundEntry (patternsOf (now (set .entry))) (now (text .entry)) (now (out .entry))) (now (out .entry)) ⌝ }
+    ensures { λ _. ⌜ now (rises .exit) ≡ after (foundRises (patternsOf (now (set .entry))) (now (text .entry)) (now (out .entry))) (now (rises .entry)) ⌝ }
 {
     let n = text.len();
     let room = out.len();
@@ -193,6 +200,7 @@ fn search_by(
             equal,
             checks,
             out,
+            rises,
         );
         Filtered::Found(counts.hits, counts.candidates)
     } else {
@@ -206,17 +214,19 @@ fn search_by(
             equal,
             checks,
             out,
+            rises,
         )
     }
 }
 
 // The search over a set that is good and a text that is short enough: fills the tables and searches
 // by them.
-fn search(set: &[u32], text: &[i32], out: &mut [u32]) -> Filtered
+fn search(set: &[u32], text: &[i32], out: &mut [u32], rises: &mut [i32]) -> Filtered
     requires { ⌜ IsSet (now set) ⌝ }
-    requires { ⌜ length (now text) ≤ 1048576 ⌝ }
+    requires { ⌜ (length (now text) ≤ 1048576) × (length (now out) ≤ 2 * length (now rises)) ⌝ }
     ensures { λ r. ⌜ toldFiltered r ≡ told (0, 0) (foundEntry (patternsOf (now (set .entry))) (now (text .entry)) (now (out .entry))) ⌝ }
     ensures { λ _. ⌜ now (out .exit) ≡ after (foundEntry (patternsOf (now (set .entry))) (now (text .entry)) (now (out .entry))) (now (out .entry)) ⌝ }
+    ensures { λ _. ⌜ now (rises .exit) ≡ after (foundRises (patternsOf (now (set .entry))) (now (text .entry)) (now (out .entry))) (now (rises .entry)) ⌝ }
 {
     let mut numbers = [0u32; 64];
     let mut equal = [0u64; 64];
@@ -239,19 +249,8 @@ fn search(set: &[u32], text: &[i32], out: &mut [u32]) -> Filtered
         &equal,
         &checks,
         out,
+        rises,
     )
-}
-
-// The rises over the first n hits of the list in the hit array.
-fn write_rises(set: &[u32], text: &[i32], out: &[u32], n: usize, rises: &mut [i32])
-    requires { ⌜ IsSet (now set) × (2 * n ≤ length (now out)) × (n ≤ length (now rises)) ⌝ }
-    requires { ⌜ hitsIn (now out) n ≡ hits (patternsOf (now set)) (now text) ⌝ }
-    ensures { λ _. ⌜ now (rises .exit)
-        ≡ map (riseIn (patternsOf (now (set .entry))) (now (text .entry))) (hits (patternsOf (now (set .entry))) (now (text .entry)))
-        ++ drop n (now (rises .entry)) ⌝ }
-{
-    let recent = [0i32; 256];
-    compute_rises::write_rises(set, &recent, 0, text, out, n, rises);
 }
 
 // The search over a set that may be searched, with the rises over the hits listed; or the refusal
@@ -270,13 +269,7 @@ fn search_text(set: &[u32], text: &[i32], hits: &mut [u32], rises: &mut [i32]) -
     if compute_rises::is_short(hits.len(), rises.len()) {
         return Filtered::Refused(Refusal::ArrayTooShort);
     }
-    match search(set, text, hits) {
-        Filtered::Found(n, candidates) => {
-            write_rises(set, text, hits, n, rises);
-            Filtered::Found(n, candidates)
-        }
-        Filtered::Refused(r) => Filtered::Refused(r),
-    }
+    search(set, text, hits, rises)
 }
 
 // Lists the hits of the text, longer pattern first at a place, then lower number, and the rises

@@ -2,7 +2,7 @@
 -- oldest out, so that after 16 places the fingerprint of 17 values is the same whatever it was
 -- before.
 use lib.Bits.{bitAnd, bitOr, and-mask, and-le-r, or-shifted}
-use lib.Pow.{high, ones-lt, ones-split}
+use lib.Pow.{high, ones-lt, ones-split, mod-mod-pow}
 use Rattle.lists.proofs.Prelude.{_≡_, _∙_, ap, sym, refl, Bool, true, false, cond, List, [], _∷_, _++_, append-assoc, ℕ, zero, suc, _+_, _-_, _*_, _/_, _%_}
 use Rattle.lists.proofs.Prelude.{_^_, _≤_, _<_, ℤ, pos, leZ, length, getD, take, length-take, take-suc, mod-lt, pow-suc, mod-eq-of-lt}
 use Rattle.lists.proofs.Prelude.{mul-add-mod-self-right, add-mul, div-add-mod', min-le-left, zero-mod, one-le-pow, add-assoc, mul-assoc, pow-le-pow-right}
@@ -46,17 +46,20 @@ rolled n bit m h b l k =
     let e : n * 2 % 4294967296 ≡ n * 2 = omega arith in
     rw (e, or-shifted n 1 bit b, mask-ones (m - 1) (17 - m) (omega arith)) (and-mask (n * 2 + bit) (m - 1))
 
--- the lowest bits of the fingerprint of 17 values, by a mask
-pub masked-lt : (own b : ℕ) → 1 ≤ b → b ≤ 17 → bitAnd own (65535 / 2 ^ (17 - b)) < 65536
-masked-lt own b l k =
+-- bits of which the lowest 16 are the fingerprint of 17 values, and their lowest ones, by a mask
+pub masked-lt : (bits b : ℕ) → 1 ≤ b → b ≤ 17 → bitAnd bits (65535 / 2 ^ (17 - b)) < 65536
+masked-lt bits b l k =
     let le : 2 ^ (b - 1) ≤ 2 ^ 16 = pow-le-pow-right (omega arith) {i = b - 1} {j = 16} (omega arith) in
-    rw (mask-ones (b - 1) (17 - b) (omega arith)) (omega (arith, and-le-r own (2 ^ (b - 1) - 1), le))
+    rw (mask-ones (b - 1) (17 - b) (omega arith)) (omega (arith, and-le-r bits (2 ^ (b - 1) - 1), le))
 
-pub masked : (own b : ℕ) (text : List ℤ) → 1 ≤ b → b ≤ 17 → own ≡ textFingerprint 17 text
-    → bitAnd own (65535 / 2 ^ (17 - b)) ≡ textFingerprint b text
-masked own b text l k e =
-    ap (bitAnd own) (mask-ones (b - 1) (17 - b) (omega arith))
-    ∙ and-mask own (b - 1)
+pub masked : (bits b : ℕ) (text : List ℤ) → 1 ≤ b → b ≤ 17 → bits % 65536 ≡ textFingerprint 17 text
+    → bitAnd bits (65535 / 2 ^ (17 - b)) ≡ textFingerprint b text
+masked bits b text l k e =
+    let s : 17 - b + (b - 1) ≡ 16 = omega arith in
+    ap (bitAnd bits) (mask-ones (b - 1) (17 - b) (omega arith))
+    ∙ and-mask bits (b - 1)
+    ∙ sym (mod-mod-pow bits (17 - b) (b - 1))
+    ∙ ap (λ (n : ℕ). bits % 2 ^ n % 2 ^ (b - 1)) s
     ∙ ap (λ (n : ℕ). n % 2 ^ (b - 1)) e
     ∙ sym (textFingerprint-part b 17 text l k)
 
@@ -89,6 +92,15 @@ shift-mod x bit m b h =
     let e : x * 2 + bit ≡ x / m * (m * 2) + (x % m * 2 + bit) =
     ap (λ (z : ℕ). z * 2 + bit) (sym d) ∙ rw (add-mul, mul-assoc (x / m) m 2) (add-assoc (x / m * (m * 2)) (x % m * 2) bit) in
     ap (λ (z : ℕ). z % (m * 2)) e ∙ mul-add-mod-self-right (x / m) (m * 2) (x % m * 2 + bit) ∙ mod-eq-of-lt (omega (arith, mod-lt x h))
+
+-- the lowest 16 bits when one more is shifted in
+pub shifted : (bits bit : ℕ) → bit < 2 → bitOr (bits * 2 % 4294967296) bit % 65536 ≡ (bits % 65536 * 2 + bit) % 65536
+shifted bits bit h =
+    let e : bits * 2 % 4294967296 ≡ bits % 2147483648 * 2 = omega arith in
+    rw (e, or-shifted (bits % 2147483648) 1 bit h)
+    (shift-mod (bits % 2147483648) bit 32768 h (omega arith)
+    ∙ ap (λ (n : ℕ). n * 2 + bit) (mod-mod-pow bits 16 15 ∙ sym (mod-mod-pow bits 1 15))
+    ∙ sym (shift-mod (bits % 65536) bit 32768 h (omega arith)))
 
 -- what is known at p of the fingerprint before `end`, when the bits of the places from `start` on
 -- are read

@@ -4,9 +4,9 @@ ghost use Rattle.lists.specs.Prelude.{_≡_, List, [], suc, min, _+_, _-_, _*_,
 ghost use Rattle.pattern_set.specs.PatternSet.{patternsOf, IsSet};
 ghost use Rattle.matching.specs.Matching.{shortest, isCandidate};
 ghost use Rattle.filter_plan.specs.Plan.{textFingerprint, isLikely, isHit};
-ghost use Rattle.filter_tables.specs.Tables.{TableOf, ownLow, ownHigh};
+ghost use Rattle.filter_tables.specs.Tables.{TableOf, ownLow, ownHigh, fitsAt};
 ghost use Rattle.filter_checks.specs.Comparisons.{Comparisons};
-ghost use Rattle.filter_windows.specs.Looks.{newBit, Since, Alike, Fitting, Looked, SetOf, CheckTables, HitTables};
+ghost use Rattle.filter_windows.specs.Looks.{newBit, Since, Alike, Fitting, Looked, SetOf, SetTables, CheckTables, HitTables};
 
 // ---- fingerprints
 
@@ -18,22 +18,25 @@ fn not_below(text: &[i32], p: usize) -> bool
     text[p - 1] <= text[p]
 }
 
-// The bit that place p adds to a fingerprint: 1 where its value is not below the one before it.
-pub fn new_bit(text: &[i32], p: usize) -> u32
+// The bit that place p, behind the first, adds to a fingerprint: 1 where its value is not below the
+// one before it.
+fn later_bit(text: &[i32], p: usize) -> u32
+    requires { ⌜ (0 < p) × (p < length (now text)) ⌝ }
+    ensures { λ r. ⌜ (r ≡ newBit (now (text .entry)) p) × (r < 2) ⌝ }
+{
+    if not_below(text, p) { 1 } else { 0 }
+}
+
+// The bit that place p adds to a fingerprint: that of the first place is 0.
+fn new_bit(text: &[i32], p: usize) -> u32
     requires { ⌜ p < length (now text) ⌝ }
     ensures { λ r. ⌜ (r ≡ newBit (now (text .entry)) p) × (r < 2) ⌝ }
 {
-    if p == 0 {
-        0
-    } else if not_below(text, p) {
-        1
-    } else {
-        0
-    }
+    if p == 0 { 0 } else { later_bit(text, p) }
 }
 
 // The fingerprint of the last m values, one place on: a shift, the new bit and a mask.
-pub fn roll(fingerprint: u32, bit: u32, m: usize) -> u32
+fn roll(fingerprint: u32, bit: u32, m: usize) -> u32
     requires { ⌜ (fingerprint < 65536) × (bit < 2) × (1 ≤ m) × (m ≤ 17) ⌝ }
     ensures { λ r. ⌜ r ≡ (fingerprint * 2 + bit) % 2 ^ (m - 1) ⌝ }
 {
@@ -41,15 +44,24 @@ pub fn roll(fingerprint: u32, bit: u32, m: usize) -> u32
     ((fingerprint << 1) | bit) & mask
 }
 
-// The set fingerprint, that of the last b values, where own is that of the last 17: its lowest
-// b - 1 bits.
-pub fn set_fingerprint(own: u32, b: usize) -> u32
+// The set fingerprint, that of the last b values, where the lowest 16 bits are the fingerprint of
+// the last 17: the lowest b - 1 bits.
+fn set_fingerprint(bits: u32, b: usize) -> u32
     requires { ⌜ (1 ≤ b) × (b ≤ 17) ⌝ }
     ensures { λ r. ⌜ r < 65536 ⌝ }
-    ensures { λ r. ⌜ ((text : List ℤ) → own ≡ textFingerprint 17 text → r ≡ textFingerprint b text) ⌝ }
+    ensures { λ r. ⌜ ((text : List ℤ) → bits % 65536 ≡ textFingerprint 17 text → r ≡ textFingerprint b text) ⌝ }
 {
     let mask: u32 = 65535 >> (17 - b);
-    own & mask
+    bits & mask
+}
+
+// The bits of the places up to p, that of p last, where `bits` are those before it: the lowest 16
+// are the fingerprint of the last 17 values. A shift and the new bit; older bits need no mask.
+pub fn bits_next(text: &[i32], p: usize, bits: u32) -> u32
+    requires { ⌜ (0 < p) × (p < length (now text)) × (bits % 65536 ≡ textFingerprint 17 (take p (now text))) ⌝ }
+    ensures { λ r. ⌜ r % 65536 ≡ textFingerprint 17 (take (suc p) (now (text .entry))) ⌝ }
+{
+    (bits << 1) | later_bit(text, p)
 }
 
 // The fingerprint of the last 17 values up to place p, where own is the one before it.
@@ -58,6 +70,19 @@ pub fn own_next(text: &[i32], p: usize, own: u32) -> u32
     ensures { λ r. ⌜ r ≡ textFingerprint 17 (take (suc p) (now (text .entry))) ⌝ }
 {
     roll(own, new_bit(text, p), 17)
+}
+
+// The fingerprint of the last 17 values up to place p, where own is the one before it. Where the
+// text ends before p it stays.
+pub fn own_at(text: &[i32], p: usize, own: u32) -> u32
+    requires { ⌜ own ≡ textFingerprint 17 (take p (now text)) ⌝ }
+    ensures { λ r. ⌜ (p < length (now (text .entry)) → r ≡ textFingerprint 17 (take (suc p) (now (text .entry)))) ⌝ }
+{
+    if p < text.len() {
+        own_next(text, p, own)
+    } else {
+        own
+    }
 }
 
 // The place 16 places back, or the first.
@@ -130,16 +155,8 @@ fn by_fingerprint(lowbyte: &[u64; 256], highbyte: &[u64; 256], fingerprint: u32)
     bit_sets::common(lowbyte[k % 256], highbyte[k / 256])
 }
 
-// The patterns that have the set fingerprint.
-pub fn by_set_fingerprint(setlow: &[u64; 256], sethigh: &[u64; 256], fingerprint: u32) -> u64
-    requires { ⌜ fingerprint < 65536 ⌝ }
-    ensures { λ s. ⌜ Alike (now (setlow .entry)) (now (sethigh .entry)) fingerprint s ⌝ }
-{
-    by_fingerprint(setlow, sethigh, fingerprint)
-}
-
 // Of a set of patterns those whose window lies within the last n values.
-pub fn fitting(set: u64, fits: &[u64; 256], n: usize) -> u64
+fn fitting(set: u64, fits: &[u64; 256], n: usize) -> u64
     ensures { λ s. ⌜ Fitting (now (fits .entry)) n set s ⌝ }
 {
     if n == 0 {
@@ -170,6 +187,39 @@ fn look(
     }
 }
 
+// The patterns that have the set fingerprint, that of the last b values, where the lowest 16 bits
+// are the fingerprint of the last 17.
+pub fn alike_at(bits: u32, b: usize, setlow: &[u64; 256], sethigh: &[u64; 256]) -> u64
+    requires { ⌜ (1 ≤ b) × (b ≤ 17) ⌝ }
+    ensures { λ s. ⌜ ((text : List ℤ) → bits % 65536 ≡ textFingerprint 17 text
+        → Alike (now (setlow .entry)) (now (sethigh .entry)) (textFingerprint b text) s) ⌝ }
+{
+    by_fingerprint(setlow, sethigh, set_fingerprint(bits, b))
+}
+
+// The candidates of place p: of the patterns that have its set fingerprint, that of the last b
+// values, those that fit. begin is where the samples behind the last gap up to p begin. The words
+// of the set, the text and the tables of the fingerprint are only there for the contract.
+pub fn candidates_among(
+    set: &[u32],
+    text: &[i32],
+    p: usize,
+    begin: usize,
+    b: usize,
+    alike: u64,
+    setlow: &[u64; 256],
+    sethigh: &[u64; 256],
+    fits: &[u64; 256],
+) -> u64
+    requires { ⌜ IsSet (now set) × (p < length (now text)) × Since (now text) (suc p) begin ⌝ }
+    requires { ⌜ SetTables (patternsOf (now set)) (now setlow) (now sethigh) (now fits) × (b ≡ shortest 17 (patternsOf (now set))) ⌝ }
+    requires { ⌜ Alike (now setlow) (now sethigh) (textFingerprint b (take (suc p) (now text))) alike ⌝ }
+    ensures { λ s. ⌜ SetOf (patternsOf (now (set .entry)))
+        (isCandidate (shortest 17 (patternsOf (now (set .entry)))) (take (suc p) (now (text .entry)))) s ⌝ }
+{
+    fitting(alike, fits, p + 1 - begin)
+}
+
 // ---- windows
 
 // Whether pattern j, which is likely at the last place p, has a hit there: its window is checked by
@@ -188,12 +238,14 @@ fn has_hit(set: &[u32], text: &[i32], p: usize, j: usize, checks: &[u32]) -> boo
 }
 
 // Of the likely patterns those that have a hit at the last place p. Of equal patterns one is
-// checked.
+// checked. The longest are checked first; after a hit of one of them only shorter ones are left, as
+// of one length only equal patterns have a hit at one place.
 fn verified(
     set: &[u32],
     text: &[i32],
     p: usize,
     likely: u64,
+    fits: &[u64; 256],
     numbers: &[u32; 64],
     equal: &[u64; 64],
     checks: &[u32],
@@ -201,6 +253,7 @@ fn verified(
     requires { ⌜ IsSet (now set) ⌝ }
     requires { ⌜ p < length (now text) ⌝ }
     requires { ⌜ SetOf (patternsOf (now set)) (isLikely (take (suc p) (now text))) likely ⌝ }
+    requires { ⌜ TableOf (patternsOf (now set)) fitsAt (now fits) ⌝ }
     requires { ⌜ CheckTables (patternsOf (now set)) (now numbers) (now equal) (now checks) ⌝ }
     ensures { λ s. ⌜ SetOf (patternsOf (now (set .entry))) (isHit (take (suc p) (now (text .entry)))) s ⌝ }
 {
@@ -209,10 +262,13 @@ fn verified(
     while rest != 0 {
         let r = bit_sets::lowest(rest);
         let members = equal[r];
-        if has_hit(set, text, p, casts::wide(numbers[r]), checks) {
+        let j = casts::wide(numbers[r]);
+        if has_hit(set, text, p, j, checks) {
             found = bit_sets::either(found, members);
+            rest = fitting(rest, fits, set_access::pattern_length(set, j) - 1);
+        } else {
+            rest = bit_sets::without(rest, members);
         }
-        rest = bit_sets::without(rest, members);
     }
     found
 }
@@ -241,7 +297,7 @@ pub fn hits_at(
     if likely == 0 {
         0
     } else {
-        verified(set, text, p, likely, numbers, equal, checks)
+        verified(set, text, p, likely, fits, numbers, equal, checks)
     }
 }
 
@@ -255,6 +311,7 @@ pub fn hits_among(
     candidates: u64,
     ownlow: &[u64; 256],
     ownhigh: &[u64; 256],
+    fits: &[u64; 256],
     numbers: &[u32; 64],
     equal: &[u64; 64],
     checks: &[u32],
@@ -263,6 +320,7 @@ pub fn hits_among(
     requires { ⌜ (p < length (now text)) × (own ≡ textFingerprint 17 (take (suc p) (now text))) ⌝ }
     requires { ⌜ SetOf (patternsOf (now set)) (isCandidate (shortest 17 (patternsOf (now set))) (take (suc p) (now text))) candidates ⌝ }
     requires { ⌜ TableOf (patternsOf (now set)) ownLow (now ownlow) × TableOf (patternsOf (now set)) ownHigh (now ownhigh) ⌝ }
+    requires { ⌜ TableOf (patternsOf (now set)) fitsAt (now fits) ⌝ }
     requires { ⌜ CheckTables (patternsOf (now set)) (now numbers) (now equal) (now checks) ⌝ }
     ensures { λ s. ⌜ SetOf (patternsOf (now (set .entry))) (isHit (take (suc p) (now (text .entry)))) s ⌝ }
 {
@@ -271,6 +329,6 @@ pub fn hits_among(
     if likely == 0 {
         0
     } else {
-        verified(set, text, p, likely, numbers, equal, checks)
+        verified(set, text, p, likely, fits, numbers, equal, checks)
     }
 }

@@ -200,7 +200,7 @@ module _ (start next : ℕ) (places : List ℕ) (values : List ℤ) (x : ℤ) (t
       e ∙ l ∙ ap (lastBelow (λ i. leZ (valueAt ring i) x)) q
 
   -- all are closed
-  pub kept-none : (at : ℕ) → start ≤ at → at ≤ start → kept ring x ≡ keptBefore at → IsKept taken start ring x (record { at = at; distance = 0 })
+  pub kept-none : (at : ℕ) → start ≤ at → at ≤ start → kept ring x ≡ keptBefore at → IsKept taken start ring x (record { at = start; distance = 0 })
   kept-none at h l e =
       let k : 0 ≡ kept ring x = lastBelow-end (λ i. leZ (valueAt ring i) x) (at - start) (omega arith) ∙ sym e in
       record { at = omega arith; distance = ap (back taken ring) k }

@@ -77,7 +77,10 @@ fn keep(
         }
         at = newest;
     }
-    Kept { at, distance: 0 }
+    Kept {
+        at: start,
+        distance: 0,
+    }
 }
 
 fn store_place(places: &mut [u32; 256], counter: usize, place: u32)
@@ -113,8 +116,8 @@ pub fn push_minimum(
     let start = drop_oldest(places, first, next, taken);
     let kept = keep(places, heights, start, next, taken, values, i);
     let at = kept.at;
-    store_place(places, at, taken);
     store_value(heights, at, values, i);
+    store_place(places, at, taken);
     Pushed {
         first: start,
         next: at + 1,

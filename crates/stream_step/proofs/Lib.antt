@@ -1,5 +1,4 @@
 -- The root of the crate's laws.
 pub mod PlaceWords
 pub mod Listed
-pub mod FirstListed
 pub mod Writing

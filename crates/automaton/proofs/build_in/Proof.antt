@@ -9,7 +9,7 @@ use Rattle.automaton_rows.proofs.Sizes.{nodes-small}
 use Rattle.entries.specs.Entries.{firstMet, setConditions}
 use Rattle.entries.proofs.Searchable.{set-unmet}
 use Rattle.automaton.proofs.Records.{nodeAt, Grown, grown-from, whole-over, length-whole}
-use Rattle.automaton.proofs.Along.{root-there}
+use Rattle.automaton.proofs.Walk.{root-there}
 use Rattle.automaton.proofs.Room.{automaton-fits}
 use Rattle.automaton.proofs.Entries.{build-short, build-done}
 use Rattle.automaton.proofs.build_in.Statement.{statement}

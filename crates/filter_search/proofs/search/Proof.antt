@@ -36,7 +36,7 @@ slice-aggregate-search-by c =
 
 search-by-requires : tie.Need-search-by-requires
 search-by-requires c κs =
-    let f = c .before .before .before .before .before .before .before in
+    let f = c .before .before .before .before .before .before .before .before in
     let o = f .before .before .before in
     let p = o .before .before .before .before in
     let e = p .before .before in
@@ -55,8 +55,11 @@ search-by-requires c κs =
 same-length : tie.Need-same-length
 same-length c = search needs
 
+same-length-2 : tie.Need-same-length-2
+same-length-2 c = search needs
+
 returns : tie.Need-returns
-returns c = c .before .before .search-by .ensures
+returns c = c .before .before .before .search-by .ensures
 
 pub search-spec : {M : Type 1} → statement M
 search-spec =
@@ -70,4 +73,5 @@ search-spec =
     slice-aggregate-search-by
     search-by-requires
     same-length
+    same-length-2
     returns)

@@ -26,29 +26,37 @@ room c =
 
 one-pass-requires : tie.Need-one-pass-requires
 one-pass-requires c κs =
-    let s = c .before .before .before .before .before .before in
-    (s .pre .0, ((s .pre .1 .0, room (c .before)), s .pre .1 .1))
+    let t = c .before .before in
+    let s = t .before .before .before .before .before in
+    (s .pre .0, ((s .pre .1 .0 .0, room t), (omega (arith, room t, s .pre .1 .0 .1), s .pre .1 .1)))
 
 two-passes-requires : tie.Need-two-passes-requires
-two-passes-requires c κs = let s = c .before .before .before .before .before .before in s .pre
+two-passes-requires c κs = let s = c .before .before .before .before .before .before .before in s .pre
 
 same-length : tie.Need-same-length
 same-length c = search needs
 
-returns : tie.Need-returns
-returns c =
-    let o = c .before .before in
-    let t = o .before .before in
-    let a = t .before .before .before .before .before .args in
-    let e = o .one-pass .ensures in
-    let r = list-found (patternsOf (a .set .now)) (a .text .now) (a .out .now) (le-leb _ _ (room t)) _ _ (e .0) (e .1 .0) in
-    (r .0, e .1 .1 ∙ r .1)
-
 same-length-2 : tie.Need-same-length-2
 same-length-2 c = search needs
 
+returns : tie.Need-returns
+returns c =
+    let o = c .before .before .before in
+    let t = o .before .before .before in
+    let s = t .before .before .before .before .before in
+    let a = s .args in
+    let e = o .one-pass .ensures in
+    list-found (patternsOf (a .set .now)) (a .text .now) (a .out .now) (a .rises .now) (le-leb _ _ (room t)) (s .pre .1 .0 .1) _ _ _ _
+    (e .0) (e .1 .0) (e .1 .1 .0) (e .1 .1 .1)
+
+same-length-3 : tie.Need-same-length-3
+same-length-3 c = search needs
+
+same-length-4 : tie.Need-same-length-4
+same-length-4 c = search needs
+
 returns-2 : tie.Need-returns-2
-returns-2 c = c .before .before .two-passes .ensures
+returns-2 c = c .before .before .before .two-passes .ensures
 
 pub search-by-spec : {M : Type 1} → statement M
 search-by-spec =
@@ -58,6 +66,8 @@ search-by-spec =
     one-pass-requires
     two-passes-requires
     same-length
-    returns
     same-length-2
+    returns
+    same-length-3
+    same-length-4
     returns-2)

@@ -1,10 +1,9 @@
 -- `search_text` meets its contract: a text that is too long or a second array that is too short is
--- refused, and another text is searched; where its list fits, the rises are written.
-use Rattle.lists.proofs.Prelude.{_≡_, _∙_, ap, sym, false, _*_, length, ltb-false, arith, needs}
-use Rattle.answers.specs.Told.{toldFiltered}
+-- refused, and another text is searched.
+use Rattle.lists.proofs.Prelude.{_≡_, _∙_, sym, false, _*_, length, ltb-false, arith, needs}
 use Rattle.entries.specs.Entries.{firstMet, setConditions, isShort}
 use Rattle.entries.proofs.Searchable.{set-unmet}
-use Rattle.filter_search.proofs.Answers.{entry-long, entry-short, entry-full, found-fits, found-array, found-hits, entry-found}
+use Rattle.filter_search.proofs.Answers.{entry-long, entry-short, entry-searched}
 use Rattle.filter_search.proofs.search_text.Statement.{statement}
 use Rattle.filter_search.proofs.search_text.Tie as tie
 
@@ -14,7 +13,7 @@ atStart c = c .before .before
 
 -- where both tests are passed, from the search
 abbrev passed : tie.After-search → tie.Else2
-passed c = c .before .before
+passed c = c .before .before .before
 
 abbrev begun : tie.Else2 → tie.Start
 begun c = atStart (c .before .before .before)
@@ -47,30 +46,10 @@ long : (c : tie.Else2) → isShort (begun c .args .hits .now) (begun c .args .ri
 long c = sym (c .before .is-short .ensures) ∙ c .if2 .left
 
 search-requires : tie.Need-search-requires
-search-requires c κs = let e = c .before in (begun e .pre .0, e .before .before .if1 .left)
-
-enum-known-n : tie.Need-enum-known-n
-enum-known-n c = search needs
-
-write-rises-requires : tie.Need-write-rises-requires
-write-rises-requires c κs =
-    let k = c .before .before .before in
-    let S = k .before .before .before .before in
-    let e = passed S in
+search-requires c κs =
+    let e = c .before .before in
     let a = begun e .args in
-    let t = ap toldFiltered (sym (k .n .given .1)) ∙ S .search .ensures .0 in
-    let w = S .search .ensures .1 in
-    let fits = found-fits (a .set .now) (a .text .now) (a .hits .now) (a .rises .now) (unmet (begun e)) (e .before .before .if1 .left) (long e) _ _ _ t w in (
-      (
-        begun e .pre .0,
-        found-array (a .set .now) (a .text .now) (a .hits .now) (a .rises .now) (unmet (begun e)) (e .before .before .if1 .left) (long e) _ _ _ t w,
-        omega (arith, fits, ltb-false (2 * length (a .rises .now)) (length (a .hits .now)) (long e)),
-      ),
-      found-hits (a .set .now) (a .text .now) (a .hits .now) (a .rises .now) (unmet (begun e)) (e .before .before .if1 .left) (long e) _ _ _ t w,
-    )
-
-enum-known-r : tie.Need-enum-known-r
-enum-known-r c = search needs
+    (begun e .pre .0, (e .before .before .if1 .left, ltb-false (2 * length (a .rises .now)) (length (a .hits .now)) (long e)))
 
 same-length : tie.Need-same-length
 same-length c = search needs
@@ -80,30 +59,12 @@ same-length-2 c = search needs
 
 returns-3 : tie.Need-returns-3
 returns-3 c =
-    let W = c .before in
-    let k = W .before .before .before .before in
-    let S = k .before .before .before .before in
+    let S = c .before .before .before in
     let e = passed S in
     let a = begun e .args in
-    let t = ap toldFiltered (sym (k .n .given .1)) ∙ S .search .ensures .0 in
     let r =
-    entry-found (a .set .now) (a .text .now) (a .hits .now) (a .rises .now) (unmet (begun e)) (e .before .before .if1 .left) (long e) _ _ _ t
-    (S .search .ensures .1) _ (W .write-rises .ensures) in
-    (r .0, (r .1, r .2))
-
-same-length-3 : tie.Need-same-length-3
-same-length-3 c = search needs
-
-returns-4 : tie.Need-returns-4
-returns-4 c =
-    let k = c .before in
-    let S = k .before .before .before .before in
-    let e = passed S in
-    let a = begun e .args in
-    let t = ap toldFiltered (sym (k .r .given .1)) ∙ S .search .ensures .0 in
-    let r =
-    entry-full (a .set .now) (a .text .now) (a .hits .now) (a .rises .now) (unmet (begun e)) (e .before .before .if1 .left) (long e) (k .r .given .0 .0) _ t
-    (S .search .ensures .1) in
+    entry-searched (a .set .now) (a .text .now) (a .hits .now) (a .rises .now) (unmet (begun e)) (e .before .before .if1 .left) (long e) _ _ _
+    (S .search .ensures) in
     (r .0, (r .1, r .2))
 
 pub search-text-spec : {M : Type 1} → statement M
@@ -114,11 +75,6 @@ search-text-spec =
     is-short-requires
     returns-2
     search-requires
-    enum-known-n
-    write-rises-requires
-    enum-known-r
     same-length
     same-length-2
-    returns-3
-    same-length-3
-    returns-4)
+    returns-3)

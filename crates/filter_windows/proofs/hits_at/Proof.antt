@@ -34,7 +34,7 @@ likely c =
 verified-requires : tie.Need-verified-requires
 verified-requires c κs =
     let s = c .before .before .before .before in
-    (s .pre .0, (s .pre .1 .0 .0, (likely (c .before), s .pre .1 .1 .check)))
+    (s .pre .0, (s .pre .1 .0 .0, (likely (c .before), (s .pre .1 .1 .own .byPlace, s .pre .1 .1 .check))))
 
 returns : tie.Need-returns
 returns c =

@@ -16,7 +16,7 @@ shr-mask c = search needs
 returns : tie.Need-returns
 returns c =
     let a = c .args in
-    (masked-lt (a .own) (a .b) (c .pre .0) (c .pre .1), λ text e. masked (a .own) (a .b) text (c .pre .0) (c .pre .1) e)
+    (masked-lt (a .bits) (a .b) (c .pre .0) (c .pre .1), λ text e. masked (a .bits) (a .b) text (c .pre .0) (c .pre .1) e)
 
 pub set-fingerprint-spec : {M : Type 1} → statement M
 set-fingerprint-spec = tie.close (tie.spec sub-mask cast-mask shr-mask returns)

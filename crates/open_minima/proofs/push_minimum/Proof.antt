@@ -21,11 +21,11 @@ keep-requires c κs =
       young-below (a .taken) (a .first) (a .next) (a .places .now) (a .heights .now) (s .pre .0 .0) _ started (s .pre .1),
     )
 
-store-place-requires : tie.Need-store-place-requires
-store-place-requires c κs = search needs
-
 store-value-requires : tie.Need-store-value-requires
 store-value-requires c κs = search needs
+
+store-place-requires : tie.Need-store-place-requires
+store-place-requires c κs = search needs
 
 add-t17 : tie.Need-add-t17
 add-t17 c =
@@ -46,9 +46,9 @@ returns c =
     let s = D .before .before in
     let a = s .args in
     is-pushed (a .taken) (a .first) (a .next) (a .places .now) (a .heights .now) (s .pre .0 .0) _ (D .drop-oldest .ensures)
-    (getD (a .values .now) (a .i) (pos 0)) _ _ _ (K .keep .ensures) (P .store-place .ensures) (c .store-value .ensures)
+    (getD (a .values .now) (a .i) (pos 0)) _ _ _ (K .keep .ensures) (c .store-place .ensures) (P .store-value .ensures)
 
 pub push-minimum-spec : {M : Type 1} → statement M
 push-minimum-spec =
     tie.close
-    (tie.spec drop-oldest-requires keep-requires store-place-requires store-value-requires add-t17 returns)
+    (tie.spec drop-oldest-requires keep-requires store-value-requires store-place-requires add-t17 returns)

@@ -14,7 +14,7 @@ is-marked-requires c κs = search needs
 hits-among-requires : tie.Need-hits-among-requires
 hits-among-requires c κs =
     let s = c .before .before .before .before .before in
-    (s .pre .0, ((s .pre .1 .0 .0, s .pre .1 .0 .2), (s .pre .1 .1 .0, (s .pre .1 .1 .1 .0, s .pre .1 .1 .1 .1 .0))))
+    (s .pre .0, ((s .pre .1 .0 .0, s .pre .1 .0 .2), (s .pre .1 .1 .0, (s .pre .1 .1 .1 .0, (s .pre .1 .1 .1 .1 .0, s .pre .1 .1 .1 .1 .1 .0)))))
 
 mark-if-requires : tie.Need-mark-if-requires
 mark-if-requires c κs = search needs
@@ -23,7 +23,7 @@ returns : tie.Need-returns
 returns c =
     let s = c .before .before .before .before .before .before .before .before in
     let a = s .args in
-    let m = s .pre .1 .1 .1 .1 .1 in (
+    let m = s .pre .1 .1 .1 .1 .1 .1 in (
       marks-next (patternsOf (a .set .now)) (a .text .now) (a .marks .now) (a .p) (set-good (a .set .now) (s .pre .0)) (m .0) _
           (c .before .before .hits-among .result) (c .before .before .hits-among .ensures) (c .mark-if .ensures),
       c .mark-if .ensures .size
@@ -34,7 +34,7 @@ returns-2 : tie.Need-returns-2
 returns-2 c =
     let s = c .before .before .before .before .before in
     let a = s .args in
-    let m = s .pre .1 .1 .1 .1 .1 in
+    let m = s .pre .1 .1 .1 .1 .1 .1 in
     let t = T-true (isMarked (a .marks .now) _) (sym (c .before .is-marked .ensures) ∙ not-false _ (c .if1 .left)) in
     (marks-stay (patternsOf (a .set .now)) (a .text .now) (a .marks .now) (a .p) (set-good (a .set .now) (s .pre .0)) (m .0) t, m .1)
 

@@ -13,23 +13,27 @@ fill-set-tables-requires : tie.Need-fill-set-tables-requires
 fill-set-tables-requires c κs =
     let b = c .before .before in
     let s = b .before .before .before .before in
-    (s .pre .0, ((s .pre .1 .1 .check .ranks, b .shortest-length .ensures), (empty-zeros, empty-zeros)))
+    (s .pre .0, ((s .pre .1 .1 .1 .check .ranks, b .shortest-length .ensures), (empty-zeros, empty-zeros)))
 
 search-places-requires : tie.Need-search-places-requires
 search-places-requires c κs =
-    let f = c .before .before .before in
+    let f = c .before .before .before .before in
     let b = f .before .before .before in
     let s = b .before .before .before .before in
     let t = f .fill-set-tables .ensures in
+    let hit = s .pre .1 .1 .1 in
     let tables =
-    set-tables (patternsOf (s .args .set .now)) (b .shortest-length .result) _ _ _ (b .shortest-length .ensures) (t .0) (t .1) (s .pre .1 .1 .own .byPlace) in
-    (s .pre .0, (s .pre .1 .0, (tables, s .pre .1 .1)))
+    set-tables (patternsOf (s .args .set .now)) (b .shortest-length .result) _ _ _ (b .shortest-length .ensures) (t .0) (t .1) (hit .own .byPlace) in
+    (s .pre .0, (s .pre .1 .0, (s .pre .1 .1 .0, (tables, hit))))
 
 same-length : tie.Need-same-length
 same-length c = search needs
 
+same-length-2 : tie.Need-same-length-2
+same-length-2 c = search needs
+
 returns : tie.Need-returns
-returns c = c .before .before .search-places .ensures
+returns c = c .before .before .before .search-places .ensures
 
 pub one-pass-spec : {M : Type 1} → statement M
 one-pass-spec =
@@ -39,4 +43,5 @@ one-pass-spec =
     fill-set-tables-requires
     search-places-requires
     same-length
+    same-length-2
     returns)
