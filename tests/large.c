@@ -494,6 +494,39 @@ static void only_gaps(void)
     free_list(hits);
 }
 
+/* Ramps, the first of so many values, and a set with equal patterns among others. While the first ramp rises every candidate is a hit;
+ * behind it windows that hold a drop are candidates and no hits. The array has just the words of the list, or a word less. */
+static void ramps(size_t first, const char *name)
+{
+    enum { VALUES = 4096, RAMP = 300, LONG = 40, SETS = 1024, MOST = 2 * 32 * VALUES };
+    int32_t text[VALUES], rising[LONG], falling[LONG];
+    uint32_t set[SETS];
+    List plain = new_list(MOST), out = new_list(MOST);
+
+    for (size_t i = 0; i < VALUES; i++)
+        text[i] = (int32_t)(i < first ? i : (i - first) % RAMP);
+    for (size_t i = 0; i < LONG; i++) {
+        rising[i] = (int32_t)i;
+        falling[i] = -(int32_t)i;
+    }
+    finder_empty_set(set, SETS);
+    for (size_t j = 0; j < 12; j++) {
+        finder_add_pattern(set, SETS, rising, LONG);
+        finder_add_pattern(set, SETS, falling, j % 2 ? LONG - 1 : 3);
+    }
+    finder_add_pattern(set, SETS, rising, 3);
+    size_t listed = list_plainly(set, text, VALUES, plain);
+    fill_list(out);
+    FinderCounts f = finder_filter_search(set, SETS, text, VALUES, out.hits, 2 * listed, out.rises, listed);
+    check(listed > 12 * VALUES / 2 && f.refusal == 0 && f.first == listed && f.second > listed && same_hits(out, plain, 0, listed), name);
+    check(held_behind(out, listed), "nothing is written behind the list");
+    check(filter_refuses(set, SETS, text, VALUES, out, 2 * listed - 1, listed, 11), "one word less is 11");
+    f = finder_filter_search(set, SETS, text, VALUES, out.hits, MOST, out.rises, half(MOST));
+    check(f.refusal == 0 && f.first == listed && same_hits(out, plain, 0, listed), "an array for every pattern at every place takes the same list");
+    free_list(plain);
+    free_list(out);
+}
+
 /* The first hit ends with the last value of a page, and the pages behind it cannot be read: a search that reads on ends this
  * program. */
 static void front_only(void)
@@ -524,6 +557,8 @@ int main(void)
     whole_text();
     full_set();
     only_gaps();
+    ramps(300, "the hits of ramps, of which the first candidates are hits, are listed");
+    ramps(10, "the hits of ramps, of which some of the first candidates are none, are listed");
     front_only();
     printf("%u checks, %u wrong\n", checks, wrong);
     return wrong != 0;

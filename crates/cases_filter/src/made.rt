@@ -51,16 +51,17 @@ pub(crate) fn length_case(number: usize, m: usize) -> Difference {
     length_in(number, m, &mut set, &mut text)
 }
 
-// A text of 150 values and 64 patterns of 2 to 64 values, in arrays that are lent.
-fn large_in(number: usize, set: &mut [u32], text: &mut [i32]) -> Difference {
+// A text of n values, 150 at most, and 64 patterns of 2 to most + 2 values, in arrays that are
+// lent. Of short ones many are equal.
+fn large_in(number: usize, n: usize, most: usize, set: &mut [u32], text: &mut [i32]) -> Difference {
     let kind = texts::pick(number, 3) + 2;
     let s = texts::fill(text, 150, kind, number);
-    test_sets::make(set, text, kind, 64, 62, s);
-    expect_plain_over(set, text, 150)
+    test_sets::make(set, text, kind, 64, most, s);
+    expect_plain_over(set, text, n)
 }
 
-pub(crate) fn large_case(number: usize) -> Difference {
+pub(crate) fn large_case(number: usize, n: usize, most: usize) -> Difference {
     let mut set = [0u32; 4163];
     let mut text = [0i32; 150];
-    large_in(number, &mut set, &mut text)
+    large_in(number, n, most, &mut set, &mut text)
 }

@@ -34,12 +34,12 @@ fn shortest_patterns(group: &[u8], n: usize, m: usize) -> Tally {
     t
 }
 
-// Cases of 64 patterns.
-fn large_sets(group: &[u8], n: usize) -> Tally {
+// Cases of 64 patterns of 2 to most + 2 values, in texts of so many values.
+fn large_sets(group: &[u8], n: usize, values: usize, most: usize) -> Tally {
     let mut t = test_tally::none();
     let mut i: usize = 0;
     while i < n {
-        t = test_tally::numbered(t, group, i, made::large_case(i));
+        t = test_tally::numbered(t, group, i, made::large_case(i, values, most));
         i += 1;
     }
     test_tally::report(group, t);
@@ -60,12 +60,13 @@ fn main() {
     let c = random_cases(b"patterns of 2 to 40 values: ", 2000, 38);
     let d = all_shortest();
     test_tally::report(b"shortest of 2, 16, 17 and 18 values: ", d);
-    let e = large_sets(b"sets of 64 patterns: ", 50);
+    let e = large_sets(b"sets of 64 patterns: ", 50, 150, 62);
+    let f = large_sets(b"sets of 64 patterns, many equal: ", 50, 16, 2);
     test_tally::report(
         b"in all ",
         test_tally::both(
             test_tally::both(a, b),
-            test_tally::both(c, test_tally::both(d, e)),
+            test_tally::both(test_tally::both(c, d), test_tally::both(e, f)),
         ),
     );
 }

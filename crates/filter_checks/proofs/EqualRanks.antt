@@ -4,7 +4,7 @@ use Rattle.lists.proofs.Prelude.{_≡_, _∙_, ap, sym, refl, subst, inl, inr, 
 use Rattle.lists.proofs.Prelude.{leb}
 use Rattle.lists.proofs.Prelude.{ltb, length, getD, set, drop, getD-set-same, getD-set-other, ext-getD, decLt, arith, eq-eqb, ne-eqb, le-leb, lt-leb, lt-ltb}
 use Rattle.lists.proofs.Prelude.{le-ltb, same}
-use Rattle.lists.proofs.Tests.{and-false, true-T, clash}
+use Rattle.lists.proofs.Tests.{and-true, and-false, true-T, clash}
 use Rattle.lists.proofs.Same.{same-true, same-false, true-same}
 use Rattle.bit_sets.specs.BitSets.{bitAt, bits}
 use Rattle.bit_sets.proofs.Digits.{bitAt-none}
@@ -112,35 +112,42 @@ module _ (ps : PatternSet) (r : ℕ) where
           rw e (and-false (leb r s && ltb s n) ∙ sym (and-false (leb r s && ltb s (length ps))))
       go (no a) (no b) = rw (le-ltb s n (omega arith), le-ltb s (length ps) (omega arith)) refl
 
--- ---- a set stored at its members
+-- ---- a value stored at the members of a set
 
--- what the table has when the members in rest are still to be stored
-abbrev pub Stored : List ℕ → List ℕ → ℕ → ℕ → Type 0
-Stored before table members rest = (s : ℕ) → s < 64 → getD table s 0 ≡ cond (bitAt members s && not (bitAt rest s)) members (getD before s 0)
+-- what the table has when the value is still to be stored at the members in rest
+abbrev pub Stored : List ℕ → List ℕ → ℕ → ℕ → ℕ → Type 0
+Stored before table members value rest = (s : ℕ) → s < 64 → getD table s 0 ≡ cond (bitAt members s && not (bitAt rest s)) value (getD before s 0)
 
-pub stored-start : (before : List ℕ) (members : ℕ) → Stored before before members members
-stored-start before members s h = go (bitAt members s)
+pub stored-start : (before : List ℕ) (members value : ℕ) → Stored before before members value members
+stored-start before members value s h = go (bitAt members s)
   where
-    go : (b : Bool) → getD before s 0 ≡ cond (b && not b) members (getD before s 0)
+    go : (b : Bool) → getD before s 0 ≡ cond (b && not b) value (getD before s 0)
     go true = refl
     go false = refl
 
-pub stored-more : (before table : List ℕ) (members rest rest' r : ℕ) → length table ≡ 64 → r < 64 → bits rest ≡ r ∷ drop 1 (bits rest)
-    → bits rest' ≡ drop 1 (bits rest) → T (bitAt members r) → Stored before table members rest → Stored before (set table r members) members rest'
-stored-more before table members rest rest' r l k e f t st s h =
+pub stored-more : (before table : List ℕ) (members value rest rest' r : ℕ) → length table ≡ 64 → r < 64 → bits rest ≡ r ∷ drop 1 (bits rest)
+    → bits rest' ≡ drop 1 (bits rest) → T (bitAt members r) → Stored before table members value rest
+    → Stored before (set table r value) members value rest'
+stored-more before table members value rest rest' r l k e f t st s h =
     go (decLt s r) (decLt r s)
-    ∙ ap (λ (b : Bool). cond (bitAt members s && not b) members (getD before s 0)) (sym (lowest-out rest rest' r s e f h))
+    ∙ ap (λ (b : Bool). cond (bitAt members s && not b) value (getD before s 0)) (sym (lowest-out rest rest' r s e f h))
   where
-    other : (s ≡ r → ⊥) → getD (set table r members) s 0 ≡ cond (bitAt members s && not (not (eqb s r) && bitAt rest s)) members (getD before s 0)
-    other d = rw (ne-eqb s r d) (getD-set-other table r s members 0 d ∙ st s h)
+    other : (s ≡ r → ⊥) → getD (set table r value) s 0 ≡ cond (bitAt members s && not (not (eqb s r) && bitAt rest s)) value (getD before s 0)
+    other d = rw (ne-eqb s r d) (getD-set-other table r s value 0 d ∙ st s h)
 
-    go : Dec (s < r) → Dec (r < s)
-        → getD (set table r members) s 0 ≡ cond (bitAt members s && not (not (eqb s r) && bitAt rest s)) members (getD before s 0)
+    go : Dec (s < r) → Dec (r < s) → getD (set table r value) s 0 ≡ cond (bitAt members s && not (not (eqb s r) && bitAt rest s)) value (getD before s 0)
     go (yes a) d = other (λ q. let z : ⊥ = omega arith in z)
     go (no a) (yes b) = other (λ q. let z : ⊥ = omega arith in z)
     go (no a) (no b) =
         let q : s ≡ r = omega arith in
-        rw (q, eq-eqb r r refl, true-T (bitAt members r) t) (getD-set-same table r members 0 (omega arith))
+        rw (q, eq-eqb r r refl, true-T (bitAt members r) t) (getD-set-same table r value 0 (omega arith))
+
+pub stored-end : (before table : List ℕ) (members value rest : ℕ) → rest ≡ 0 → Stored before table members value rest
+    → (s : ℕ) → s < 64 → getD table s 0 ≡ cond (bitAt members s) value (getD before s 0)
+stored-end before table members value rest e st s h =
+    st s h
+    ∙ ap (λ (b : Bool). cond (bitAt members s && not b) value (getD before s 0)) (ap (λ (m : ℕ). bitAt m s) e ∙ bitAt-none s)
+    ∙ ap (λ (b : Bool). cond b value (getD before s 0)) (and-true (bitAt members s))
 
 -- ---- the table
 

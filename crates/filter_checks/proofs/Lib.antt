@@ -3,3 +3,4 @@ pub mod EqualRanks
 pub mod Words
 pub mod Passing
 pub mod Places
+pub mod Grouping

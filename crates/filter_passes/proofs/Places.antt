@@ -2,8 +2,8 @@
 -- that pass its test in the order of the hits; so they are the place's hits, and as many as its
 -- candidates. A place without candidates has no hit, and a gap has no candidates.
 use Rattle.lists.proofs.Prelude.{_≡_, _∙_, ap, sym, refl, subst, Bool, true, false, _&&_, List, [], _∷_, map, flatten, ℕ, suc, _+_, _/_, _≤_, _<_, ℤ, pos, T}
-use Rattle.lists.proofs.Prelude.{leb, leb→le, ltb, length, getD, take, drop, length-append, length-map, length-take-le, decLt, arith, lt-leb, lt-ltb, le-ltb}
-use Rattle.lists.proofs.Prelude.{ltb-true, tabulate, select, lastOf}
+use Rattle.lists.proofs.Prelude.{ltb, length, getD, take, drop, length-append, length-map, length-take-le, length-drop, decLt, arith, lt-leb, lt-ltb, le-ltb}
+use Rattle.lists.proofs.Prelude.{ltb-true, tabulate, select, drop-cons, drop-of-length-le, add-one}
 use Rattle.lists.proofs.Tests.{and-false, and-split, and-join, T-true, true-T}
 use Rattle.lists.proofs.Rows.{flatten-tabulate}
 use Rattle.lists.proofs.Members.{getD-mem, mem-getD, map-ext, map-map}
@@ -15,16 +15,16 @@ use Rattle.bit_sets.proofs.Digits.{bitAt-none}
 use Rattle.gaps.specs.Gaps.{isGap}
 use Rattle.pattern_set.specs.PatternSet.{PatternSet, goodSet}
 use Rattle.pattern_set.proofs.Good.{goodSet-parts}
-use Rattle.matching.specs.Matching.{hasTree, lastHits, hitsAt, shortest, isCandidate, candidates}
+use Rattle.matching.specs.Matching.{lastHits, hitsAt, shortest, isCandidate, candidates}
 use Rattle.filter_plan.specs.Plan.{hitOrder, isHit}
 use Rattle.filter_plan.proofs.HitOrder.{good-number, hitOrder-lt, length-hitOrder, lastHits-order}
 use Rattle.filter_plan.proofs.Checks.{shortest-own, hit-candidate}
-use Rattle.filter_plan.proofs.Candidates.{candidates-order}
+use Rattle.filter_plan.proofs.Candidates.{candidates-order, lastHits-candidates}
 use Rattle.filter_tables.specs.Tables.{ranked, Ranks}
 use Rattle.filter_tables.proofs.Lookup.{bits-ranks, ranks-order}
 use Rattle.filter_windows.specs.Looks.{SetOf}
 use Rattle.filter_windows.proofs.Samples.{since-gap, samples-fit}
-use Rattle.filter_passes.specs.Passes.{isMarked, HitsMarked, MarkedIf, NoneFrom, candidatesBelow, rankHits}
+use Rattle.filter_passes.specs.Passes.{isMarked, HitsMarked, MarkedIf, NoneFrom, candidatesBelow, rankHits, placeHits}
 
 -- ---- ranks
 
@@ -143,6 +143,37 @@ pub length-rankHits : (numbers : List ℕ) (p : ℕ) (ranks : List ℕ) → leng
 unfolding rankHits
 length-rankHits numbers p ranks = length-map {B = ℕ × ℕ} ranks (λ r. (p, getD numbers r 0))
 
+-- a place has as many hits as there are ranks in their set
+pub hitsAt-size : (ps : PatternSet) (text : List ℤ) (p : ℕ) (numbers : List ℕ) (found : ℕ) → T (goodSet ps) → Ranks ps numbers
+    → SetOf ps (isHit (take (suc p) text)) found → length (bits found) ≡ length (hitsAt ps text p)
+hitsAt-size ps text p numbers found g n s = sym (length-rankHits numbers p (bits found)) ∙ ap length (hits-by-rank ps text p numbers found g n s)
+
+-- the hits of numbers: the first, and the others from i on
+pub length-placeHits : (p : ℕ) (numbers : List ℕ) → length (placeHits p numbers) ≡ length numbers
+unfolding placeHits
+length-placeHits p numbers = length-map {B = ℕ × ℕ} numbers (λ j. (p, j))
+
+pub place-first : (p : ℕ) (numbers : List ℕ) (i : ℕ) → i < length numbers
+    → placeHits p (drop i numbers) ≡ (p, getD numbers i 0) ∷ placeHits p (drop (i + 1) numbers)
+unfolding placeHits
+place-first p numbers i h =
+    ap (placeHits p) (drop-cons numbers i 0 h) ∙ ap (λ (n : ℕ). (p, getD numbers i 0) ∷ placeHits p (drop n numbers)) (sym (add-one i))
+
+pub place-none : (p : ℕ) (numbers : List ℕ) (i : ℕ) → length numbers ≤ i → placeHits p (drop i numbers) ≡ []
+unfolding placeHits
+place-none p numbers i h = ap (placeHits p) (drop-of-length-le numbers {i = i} h)
+
+-- the numbers of ranks
+pub place-ranks : (p : ℕ) (numbers ranks : List ℕ) → placeHits p (map (λ s. getD numbers s 0) ranks) ≡ rankHits numbers p ranks
+unfolding placeHits rankHits
+place-ranks p numbers ranks = map-map (λ s. getD numbers s 0) (λ j. (p, j)) ranks
+
+-- as many as there are ranks
+pub part-size : (grouped numbers ranks : List ℕ) (a n : ℕ) → a + n ≤ length grouped → take n (drop a grouped) ≡ map (λ s. getD numbers s 0) ranks
+    → n ≡ length ranks
+part-size grouped numbers ranks a n h e =
+    sym (length-take-le n (drop a grouped) (omega (arith, length-drop a grouped))) ∙ ap length e ∙ length-map ranks (λ s. getD numbers s 0)
+
 -- the hit of the first rank, and those of the others
 pub rank-first : (numbers : List ℕ) (p r : ℕ) (ranks rest : List ℕ) → ranks ≡ r ∷ drop 1 ranks → rest ≡ drop 1 ranks
     → rankHits numbers p ranks ≡ (p, getD numbers r 0) ∷ rankHits numbers p rest
@@ -154,19 +185,6 @@ pub rank-none : (numbers : List ℕ) (p set : ℕ) → set ≡ 0 → rankHits nu
 unfolding rankHits
 rank-none numbers p set e = rw (e, bits-zero) refl
 
--- a rank of the set of a place's hits: the number of a pattern of the set, whose window lies within
--- the values up to the place
-pub rank-window : (ps : PatternSet) (text : List ℤ) (p : ℕ) (numbers : List ℕ) (found r : ℕ) → T (goodSet ps) → p < length text → Ranks ps numbers
-    → SetOf ps (isHit (take (suc p) text)) found → r < 64 → T (bitAt found r)
-    → (getD numbers r 0 < length ps) × (length (getD ps (getD numbers r 0) []) ≤ suc p)
-unfolding isHit
-rank-window ps text p numbers found r g lt n s h b =
-    let t = take (suc p) text in
-    let hit = rank-passes ps (isHit t) found r s h b in
-    let q = ranked ps r in
-    let within = leb→le (length q) (length t) (and-split (leb (length q) (length t)) (hasTree (lastOf (length q) t) q) (hit .1) .0) in
-    rw (n r (hit .0)) (hitOrder-lt ps r (omega (arith, hit .0, length-hitOrder ps g)), omega (arith, within, length-take-le (suc p) text lt))
-
 -- no place has more hits than there are patterns
 pub hitsAt-count : (ps : PatternSet) (text : List ℤ) (p : ℕ) → T (goodSet ps) → length (hitsAt ps text p) ≤ length ps
 unfolding hitsAt
@@ -177,6 +195,14 @@ hitsAt-count ps text p g =
 
 pub hitsAt-le : (ps : PatternSet) (text : List ℤ) (p : ℕ) → T (goodSet ps) → length (hitsAt ps text p) ≤ 64
 hitsAt-le ps text p g = omega (arith, hitsAt-count ps text p g, goodSet-parts ps g .0)
+
+-- nor more than candidates
+pub hitsAt-candidates : (ps : PatternSet) (text : List ℤ) (p set : ℕ) → T (goodSet ps)
+    → SetOf ps (isCandidate (shortest 17 ps) (take (suc p) text)) set → length (hitsAt ps text p) ≤ length (bits set)
+unfolding hitsAt
+hitsAt-candidates ps text p set g s =
+    let t = take (suc p) text in
+    rw (length-map {B = ℕ × ℕ} (lastHits ps t) (λ j. (p, j)), candidates-size ps (shortest 17 ps) t set g s) (lastHits-candidates ps t g)
 
 -- a place at which no pattern by rank has a hit has none
 pub none-hit : (ps : PatternSet) (text : List ℤ) (p : ℕ) → T (goodSet ps)

@@ -4,11 +4,11 @@ use Rattle.lists.proofs.Prelude.{_≡_, _∙_, ap, sym, refl, List, [], _∷_, 
 use Rattle.lists.proofs.Prelude.{sets, length-sets, add-one, arith}
 use Rattle.bit_sets.specs.BitSets.{bits}
 use Rattle.pattern_set.specs.PatternSet.{PatternSet, goodSet}
-use Rattle.matching.specs.Matching.{hitWords}
+use Rattle.matching.specs.Matching.{hitsAt, hitWords}
 use Rattle.filter_plan.specs.Plan.{isHit}
 use Rattle.filter_tables.specs.Tables.{Ranks}
 use Rattle.filter_windows.specs.Looks.{SetOf}
-use Rattle.filter_passes.specs.Passes.{hitsFrom, rankHits}
+use Rattle.filter_passes.specs.Passes.{hitsFrom}
 use Rattle.filter_passes.proofs.Places.{hits-by-rank, length-rankHits}
 use Rattle.filter_passes.proofs.Lists.{hits-step, words-step, words-end, rises-step, rises-end}
 
@@ -70,6 +70,13 @@ module _ (f : ℕ × ℕ → ℤ) (old out : List ℕ) (oldRises rises : List �
       risen = rises-step part rest' rest to to' split t f rises rises' r ∙ before .risen;
     }
 
+  -- there is room for one hit more
+  pub one-more : (h : ℕ × ℕ) (rest' : List (ℕ × ℕ)) → rest ≡ h ∷ rest' → 2 * (at + length all) ≤ length old → at + length all ≤ length oldRises
+      → (2 * to + 1 < length out) × (to < length rises)
+  one-more h rest' e o r =
+      let more : to < at + length all = omega (arith, before .next, ap length e) in
+      (omega (arith, more, o, before .size), omega (arith, more, r, before .risesSize))
+
   -- one hit is written, as two words, and the rise v over it
   pub written-hit : (h : ℕ × ℕ) (v : ℤ) (rest' : List (ℕ × ℕ)) → rest ≡ h ∷ rest' → v ≡ f h
       → Written f old (set (set out (2 * to) (h .0)) (2 * to + 1) (h .1)) oldRises (set rises to v) at (to + 1) all rest'
@@ -80,33 +87,30 @@ module _ (f : ℕ × ℕ → ℤ) (old out : List ℕ) (oldRises rises : List �
 
 -- ---- the hits of one place
 
--- place p of those up to end, where `found` has the patterns that have a hit there
-module _ (ps : PatternSet) (text : List ℤ) (p end : ℕ) (lt : p < end) (good : T (goodSet ps)) (numbers : List ℕ) (found : ℕ)
-    (ranks : Ranks ps numbers) (hit : SetOf ps (isHit (take (suc p) text)) found) where
-  -- the hits from p on, those of p, and those behind p
+-- place p of those up to end
+module _ (ps : PatternSet) (text : List ℤ) (p end : ℕ) (lt : p < end) where
+  -- the hits from p on, and those behind p
   abbrev from : List (ℕ × ℕ)
   from = hitsFrom ps text p (end - p)
-
-  abbrev here : List (ℕ × ℕ)
-  here = rankHits numbers p (bits found)
 
   abbrev behind : List (ℕ × ℕ)
   behind = hitsFrom ps text (p + 1) (end - (p + 1))
 
-  place-split : from ≡ here ++ behind
-  place-split = hits-step ps text p end lt ∙ ap (λ (v : List (ℕ × ℕ)). v ++ behind) (sym (hits-by-rank ps text p numbers found good ranks hit))
-
-  pub place-length : length from ≡ length (bits found) + length behind
-  place-length = ap length place-split ∙ length-append here behind ∙ ap (λ (n : ℕ). n + length behind) (length-rankHits numbers p (bits found))
+  -- as many as `found` has patterns that have a hit at p, and those behind p
+  pub place-length : T (goodSet ps) → (numbers : List ℕ) (found : ℕ) → Ranks ps numbers → SetOf ps (isHit (take (suc p) text)) found
+      → length from ≡ length (bits found) + length behind
+  place-length good numbers found ranks hit =
+      ap length (hits-step ps text p end lt)
+      ∙ length-append (hitsAt ps text p) behind
+      ∙ ap (λ (n : ℕ). n + length behind)
+      (ap length (sym (hits-by-rank ps text p numbers found good ranks hit)) ∙ length-rankHits numbers p (bits found))
 
   module _ (f : ℕ × ℕ → ℤ) (old out : List ℕ) (oldRises rises : List ℤ) (at to : ℕ) (all : List (ℕ × ℕ))
       (before : Written f old out oldRises rises at to all from) where
     pub place-room : 2 * (at + length all) ≤ length old → at + length all ≤ length oldRises
-        → (2 * (to + length (bits found)) ≤ length out) × (to + length (bits found) ≤ length rises)
-    place-room h k = rw (length-rankHits numbers p (bits found)) at (written-room f old out oldRises rises at to all from before here behind place-split h k)
+        → (2 * (to + length (hitsAt ps text p)) ≤ length out) × (to + length (hitsAt ps text p) ≤ length rises)
+    place-room = written-room f old out oldRises rises at to all from before (hitsAt ps text p) behind (hits-step ps text p end lt)
 
-    pub place-written : (out' : List ℕ) (rises' : List ℤ) (to' : ℕ) → out' ≡ sets out (2 * to) (hitWords here) → rises' ≡ sets rises to (map f here)
-        → to' ≡ to + length (bits found) → Written f old out' oldRises rises' at to' all behind
-    place-written out' rises' to' o r t =
-        written-part f old out oldRises rises at to all from before here behind place-split out' rises' to' o r
-        (omega (arith, t, length-rankHits numbers p (bits found)))
+    pub place-written : (out' : List ℕ) (rises' : List ℤ) (to' : ℕ) → out' ≡ sets out (2 * to) (hitWords (hitsAt ps text p))
+        → rises' ≡ sets rises to (map f (hitsAt ps text p)) → to' ≡ to + length (hitsAt ps text p) → Written f old out' oldRises rises' at to' all behind
+    place-written = written-part f old out oldRises rises at to all from before (hitsAt ps text p) behind (hits-step ps text p end lt)

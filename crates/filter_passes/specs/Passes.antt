@@ -51,3 +51,7 @@ restHits ps text a = hitsFrom ps text a (length text - a)
 -- the hits of the patterns of these ranks at place p
 unfoldable pub rankHits : List ℕ → ℕ → List ℕ → List (ℕ × ℕ)
 rankHits numbers p ranks = map (λ r. (p, getD numbers r 0)) ranks
+
+-- the hits of the patterns with these numbers at place p
+unfoldable pub placeHits : ℕ → List ℕ → List (ℕ × ℕ)
+placeHits p numbers = map (λ j. (p, j)) numbers

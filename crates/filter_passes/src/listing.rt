@@ -1,16 +1,15 @@
 // The second pass, over the marked blocks only: it counts the hits, or writes them and the rises
 // over them.
 ghost use lib.Seq.{sets};
-ghost use Rattle.lists.specs.Prelude.{_≡_, map, suc, min, _+_, _-_, _*_, _≤_, _<_, length, take};
-ghost use Rattle.bit_sets.specs.BitSets.{bits};
+ghost use Rattle.lists.specs.Prelude.{_≡_, map, min, _+_, _-_, _*_, _≤_, _<_, length};
 ghost use Rattle.pattern_set.specs.PatternSet.{patternsOf, IsSet};
 ghost use Rattle.matching.specs.Matching.{hits, hitWords};
 ghost use Rattle.matching.specs.Rise.{riseIn};
-ghost use Rattle.filter_plan.specs.Plan.{isHit};
-ghost use Rattle.filter_tables.specs.Tables.{Ranks};
-ghost use Rattle.filter_windows.specs.Looks.{SetOf, Since, HitTables};
-ghost use Rattle.filter_passes.specs.Passes.{HitsMarked, hitsFrom, rankHits};
+ghost use Rattle.filter_checks.specs.Groups.{Groups};
+ghost use Rattle.filter_windows.specs.Looks.{Since, HitTables};
+ghost use Rattle.filter_passes.specs.Passes.{HitsMarked, hitsFrom};
 use crate::marks::is_marked;
+use crate::place::write_place;
 
 // The place behind the last one of the block that begins at the place first, in a text of n values.
 fn block_end(first: usize, n: usize) -> usize
@@ -127,49 +126,6 @@ pub fn count_hits(
     count
 }
 
-// Writes the hits of a set of ranks at place p and the rises over them, from hit `at` on; tells the
-// hit behind them. Patterns of one length have the same rise at a place, so it is computed only
-// where the length is another than that of the hit before.
-pub(crate) fn write_place(
-    set: &[u32],
-    text: &[i32],
-    numbers: &[u32; 64],
-    found: u64,
-    p: usize,
-    out: &mut [u32],
-    rises: &mut [i32],
-    at: usize,
-) -> usize
-    requires { ⌜ IsSet (now set) ⌝ }
-    requires { ⌜ (p < length (now text)) × (length (now text) ≤ 1048576) ⌝ }
-    requires { ⌜ Ranks (patternsOf (now set)) (now numbers) × SetOf (patternsOf (now set)) (isHit (take (suc p) (now text))) found ⌝ }
-    requires { ⌜ (2 * (at + length (bits found)) ≤ length (now out)) × (at + length (bits found) ≤ length (now rises)) ⌝ }
-    ensures { λ r. ⌜ r ≡ at + length (bits found) ⌝ }
-    ensures { λ _. ⌜ now (out .exit) ≡ sets (now (out .entry)) (2 * at) (hitWords (rankHits (now (numbers .entry)) p (bits found))) ⌝ }
-    ensures { λ _. ⌜ now (rises .exit) ≡ sets (now (rises .entry)) at
-        (map (riseIn (patternsOf (now (set .entry))) (now (text .entry))) (rankHits (now (numbers .entry)) p (bits found))) ⌝ }
-{
-    let mut rest = found;
-    let mut to = at;
-    let mut last = 0;
-    let mut rise = 0;
-    while rest != 0 {
-        let r = bit_sets::lowest(rest);
-        let j = numbers[r];
-        let m = set_access::pattern_length(set, casts::wide(j));
-        if m != last {
-            rise = compute_rises::rise_in(text, p, m);
-            last = m;
-        }
-        out[2 * to] = p as u32;
-        out[2 * to + 1] = j;
-        rises[to] = rise;
-        rest = bit_sets::without_lowest(rest);
-        to += 1;
-    }
-    to
-}
-
 // The hit behind those of a block, and where the samples behind the last gap up to its end begin.
 struct Listed {
     to: usize,
@@ -190,6 +146,8 @@ fn write_block(
     numbers: &[u32; 64],
     equal: &[u64; 64],
     checks: &[u32],
+    grouped: &[u32],
+    words: &[u32; 64],
     out: &mut [u32],
     rises: &mut [i32],
     at: usize,
@@ -197,6 +155,7 @@ fn write_block(
     requires { ⌜ IsSet (now set) ⌝ }
     requires { ⌜ (first ≤ end) × (end ≤ length (now text)) × (length (now text) ≤ 1048576) × Since (now text) first begin ⌝ }
     requires { ⌜ HitTables (patternsOf (now set)) (now ownlow) (now ownhigh) (now fits) (now numbers) (now equal) (now checks) ⌝ }
+    requires { ⌜ (length (now grouped) ≡ 64) × Groups (length (patternsOf (now set))) (now numbers) (now equal) (now grouped) (now words) ⌝ }
     requires { ⌜ 2 * (at + length (hitsFrom (patternsOf (now set)) (now text) first (end - first))) ≤ length (now out) ⌝ }
     requires { ⌜ at + length (hitsFrom (patternsOf (now set)) (now text) first (end - first)) ≤ length (now rises) ⌝ }
     ensures { λ r. ⌜ r .to ≡ at + length (hitsFrom (patternsOf (now (set .entry))) (now (text .entry)) first (end - first)) ⌝ }
@@ -214,20 +173,22 @@ fn write_block(
     while p < end {
         own = filter_windows::own_next(text, p, own);
         since = filter_windows::begin_next(text, p, since);
-        let found = filter_windows::hits_at(
+        let likely = filter_windows::likely_at(set, text, p, own, since, ownlow, ownhigh, fits);
+        to = write_place(
             set,
             text,
             p,
-            own,
-            since,
-            ownlow,
-            ownhigh,
+            likely,
             fits,
             numbers,
             equal,
             checks,
+            grouped,
+            words,
+            out,
+            rises,
+            to,
         );
-        to = write_place(set, text, numbers, found, p, out, rises, to);
         p += 1;
     }
     Listed { to, begin: since }
@@ -246,6 +207,8 @@ pub fn write_hits(
     numbers: &[u32; 64],
     equal: &[u64; 64],
     checks: &[u32],
+    grouped: &[u32],
+    words: &[u32; 64],
     out: &mut [u32],
     rises: &mut [i32],
 ) -> usize
@@ -253,6 +216,7 @@ pub fn write_hits(
     requires { ⌜ length (now text) ≤ 1048576 ⌝ }
     requires { ⌜ HitsMarked (patternsOf (now set)) (now text) (now marks) (length (now text)) ⌝ }
     requires { ⌜ HitTables (patternsOf (now set)) (now ownlow) (now ownhigh) (now fits) (now numbers) (now equal) (now checks) ⌝ }
+    requires { ⌜ (length (now grouped) ≡ 64) × Groups (length (patternsOf (now set))) (now numbers) (now equal) (now grouped) (now words) ⌝ }
     requires { ⌜ 2 * length (hits (patternsOf (now set)) (now text)) ≤ length (now out) ⌝ }
     requires { ⌜ length (hits (patternsOf (now set)) (now text)) ≤ length (now rises) ⌝ }
     ensures { λ r. ⌜ r ≡ length (hits (patternsOf (now (set .entry))) (now (text .entry))) ⌝ }
@@ -281,6 +245,8 @@ pub fn write_hits(
                 numbers,
                 equal,
                 checks,
+                grouped,
+                words,
                 out,
                 rises,
                 to,

@@ -5,8 +5,9 @@ ghost use Rattle.lists.specs.Prelude.{_≡_, map, _*_, _≤_, length};
 ghost use Rattle.pattern_set.specs.PatternSet.{patternsOf, IsSet};
 ghost use Rattle.matching.specs.Matching.{hits, hitWords, candidates};
 ghost use Rattle.matching.specs.Rise.{riseIn};
+ghost use Rattle.filter_checks.specs.Groups.{Groups};
 ghost use Rattle.filter_windows.specs.Looks.{SetTables, HitTables};
-use crate::listing::write_place;
+use crate::place::write_place;
 use crate::scanning::next_stop;
 
 // What a pass has counted.
@@ -28,6 +29,8 @@ fn search_places(
     numbers: &[u32; 64],
     equal: &[u64; 64],
     checks: &[u32],
+    grouped: &[u32],
+    words: &[u32; 64],
     out: &mut [u32],
     rises: &mut [i32],
 ) -> Counts
@@ -36,6 +39,7 @@ fn search_places(
     requires { ⌜ length (hits (patternsOf (now set)) (now text)) ≤ length (now rises) ⌝ }
     requires { ⌜ SetTables (patternsOf (now set)) (now setlow) (now sethigh) (now fits) ⌝ }
     requires { ⌜ HitTables (patternsOf (now set)) (now ownlow) (now ownhigh) (now fits) (now numbers) (now equal) (now checks) ⌝ }
+    requires { ⌜ (length (now grouped) ≡ 64) × Groups (length (patternsOf (now set))) (now numbers) (now equal) (now grouped) (now words) ⌝ }
     ensures { λ r. ⌜ r .hits ≡ length (hits (patternsOf (now (set .entry))) (now (text .entry))) ⌝ }
     ensures { λ r. ⌜ r .candidates ≡ candidates (patternsOf (now (set .entry))) (now (text .entry)) ⌝ }
     ensures { λ _. ⌜ now (out .exit) ≡ sets (now (out .entry)) 0 (hitWords (hits (patternsOf (now (set .entry))) (now (text .entry)))) ⌝ }
@@ -57,7 +61,7 @@ fn search_places(
             };
         }
         count += bit_sets::size(s.candidates);
-        let found = filter_windows::hits_among(
+        let likely = filter_windows::likely_among(
             set,
             text,
             s.place,
@@ -65,12 +69,22 @@ fn search_places(
             s.candidates,
             ownlow,
             ownhigh,
+        );
+        to = write_place(
+            set,
+            text,
+            s.place,
+            likely,
             fits,
             numbers,
             equal,
             checks,
+            grouped,
+            words,
+            out,
+            rises,
+            to,
         );
-        to = write_place(set, text, numbers, found, s.place, out, rises, to);
         p = s.place + 1;
         own = filter_windows::own_at(text, p, s.own);
         begin = s.begin;
@@ -87,6 +101,8 @@ pub fn one_pass(
     numbers: &[u32; 64],
     equal: &[u64; 64],
     checks: &[u32],
+    grouped: &[u32],
+    words: &[u32; 64],
     out: &mut [u32],
     rises: &mut [i32],
 ) -> Counts
@@ -94,6 +110,7 @@ pub fn one_pass(
     requires { ⌜ (length (now text) ≤ 1048576) × (2 * length (hits (patternsOf (now set)) (now text)) ≤ length (now out)) ⌝ }
     requires { ⌜ length (hits (patternsOf (now set)) (now text)) ≤ length (now rises) ⌝ }
     requires { ⌜ HitTables (patternsOf (now set)) (now ownlow) (now ownhigh) (now fits) (now numbers) (now equal) (now checks) ⌝ }
+    requires { ⌜ (length (now grouped) ≡ 64) × Groups (length (patternsOf (now set))) (now numbers) (now equal) (now grouped) (now words) ⌝ }
     ensures { λ r. ⌜ r .hits ≡ length (hits (patternsOf (now (set .entry))) (now (text .entry))) ⌝ }
     ensures { λ r. ⌜ r .candidates ≡ candidates (patternsOf (now (set .entry))) (now (text .entry)) ⌝ }
     ensures { λ _. ⌜ now (out .exit) ≡ sets (now (out .entry)) 0 (hitWords (hits (patternsOf (now (set .entry))) (now (text .entry)))) ⌝ }
@@ -115,6 +132,8 @@ pub fn one_pass(
         numbers,
         equal,
         checks,
+        grouped,
+        words,
         out,
         rises,
     )

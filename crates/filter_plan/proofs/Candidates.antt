@@ -1,12 +1,11 @@
 -- THE CANDIDATES of a place are as many in the order of the hits as in the order of the set, and no
 -- fewer than the hits: each hit is one.
-use Rattle.lists.proofs.Prelude.{_≡_, _∙_, ap, sym, Bool, List, [], ℕ, suc, _≤_, ℤ, T, length, getD, take, length-map, select}
+use Rattle.lists.proofs.Prelude.{_≡_, _∙_, ap, sym, Bool, List, [], ℕ, _≤_, ℤ, T, length, getD, select}
 use Rattle.lists.proofs.Members.{getD-mem}
 use Rattle.lists.proofs.Tables.{tabulate-getD}
 use Rattle.lists.proofs.Counting.{howMany, length-howMany, howMany-tabulate, howMany-le}
-use Rattle.lists.proofs.Rows.{flatten-le}
 use Rattle.pattern_set.specs.PatternSet.{PatternSet, goodSet}
-use Rattle.matching.specs.Matching.{lastHits, hitsAt, hits, shortest, isCandidate, candidates}
+use Rattle.matching.specs.Matching.{lastHits, shortest, isCandidate}
 use Rattle.filter_plan.specs.Plan.{hitOrder, isHit}
 use Rattle.filter_plan.proofs.HitOrder.{good-number, hitOrder-mem, howMany-hitOrder, lastHits-order}
 use Rattle.filter_plan.proofs.Checks.{shortest-le, hit-candidate}
@@ -25,7 +24,7 @@ pub candidates-order : (b : ℕ) (ps : PatternSet) (text : List ℤ) → T (good
     → length (select (isCandidate b text) ps) ≡ length (select (λ j. isCandidate b text (getD ps j [])) (hitOrder ps))
 candidates-order b ps text g = select-order (isCandidate b text) ps g
 
--- at one place
+-- each hit is one
 pub lastHits-candidates : (ps : PatternSet) (text : List ℤ) → T (goodSet ps)
     → length (lastHits ps text) ≤ length (select (isCandidate (shortest 17 ps) text) ps)
 lastHits-candidates ps text g =
@@ -40,10 +39,3 @@ lastHits-candidates ps text g =
     (howMany-le (λ j. isHit text (getD ps j [])) (λ j. isCandidate b text (getD ps j [])) (hitOrder ps)
     (λ j m t. let h = hitOrder-mem ps j m in
     hit-candidate b text (getD ps j []) (shortest-le 17 ps (getD ps j []) (getD-mem ps j [] h)) (good-number ps j g h .2) t))
-
--- over the whole text
-pub hits-candidates : (ps : PatternSet) (text : List ℤ) → T (goodSet ps) → length (hits ps text) ≤ candidates ps text
-unfolding hits hitsAt candidates
-hits-candidates ps text g =
-    flatten-le (hitsAt ps text) (λ p. select (isCandidate (shortest 17 ps) (take (suc p) text)) ps) (length text)
-    (λ p h. rw length-map (lastHits-candidates ps (take (suc p) text) g))

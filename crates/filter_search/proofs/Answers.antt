@@ -1,27 +1,31 @@
 -- THE ANSWER of a filter search, for each way through the entry: the first refusal that is met, and
 -- else the counts and the list.
-use Rattle.lists.proofs.Prelude.{_≡_, _∙_, ap, sym, refl, ap₂, true, false, List, map, ℕ, _*_, _≤_, _<_, ℤ, T, leb, length, sets, arith, le-leb, lt-ltb, le-ltb}
-use Rattle.lists.proofs.Prelude.{leb-true, leb-false}
+use Rattle.lists.proofs.Prelude.{_≡_, _∙_, ap, sym, refl, ap₂, true, false, List, map, ℕ, _*_, _≤_, _<_, ℤ, leb, length, sets, arith, le-leb, lt-leb, lt-ltb}
+use Rattle.lists.proofs.Prelude.{le-ltb, leb-true, leb-false}
 use Rattle.answers.specs.declared.Refusal.{Refusal}
 use Rattle.answers.specs.Told.{number}
 use Rattle.answers.proofs.Refusals.{number-positive}
-use Rattle.pattern_set.specs.PatternSet.{PatternSet, goodSet, patternsOf}
+use Rattle.pattern_set.specs.PatternSet.{PatternSet, patternsOf}
 use Rattle.matching.specs.Matching.{hits, hitWords, candidates}
 use Rattle.matching.specs.Rise.{riseIn}
 use Rattle.entries.specs.Entries.{Entry, firstMet, unless, told, after, setConditions, isShort, filterEntry, filterRises}
 use Rattle.entries.proofs.Refusals.{met-before, leftBy, refused}
 use Rattle.entries.proofs.Filter.{fromNine}
 use Rattle.entries.proofs.Searchable.{set-accepted}
-use Rattle.filter_plan.proofs.Candidates.{hits-candidates}
 use Rattle.filter_passes.proofs.Lists.{front-words, front-rises}
 use Rattle.filter_search.specs.Search.{foundEntry, foundRises}
 
 -- ---- does the list fit
 
--- where twice the candidates do, twice the hits do
-pub candidates-fit : (ps : PatternSet) (text : List ℤ) (count room : ℕ) → T (goodSet ps) → count ≡ candidates ps text → 2 * count ≤ room
+-- where twice a count does that leaves out no hit, twice the hits do
+pub counted-fit : (ps : PatternSet) (text : List ℤ) (count room : ℕ) → length (hits ps text) ≤ count → 2 * count ≤ room
     → true ≡ leb (2 * length (hits ps text)) room
-candidates-fit ps text count room g e h = sym (le-leb (2 * length (hits ps text)) room (omega (arith, hits-candidates ps text g)))
+counted-fit ps text count room l h = sym (le-leb (2 * length (hits ps text)) room (omega (arith, l, h)))
+
+-- where twice an exact count does not, twice the hits do not
+pub counted-long : (ps : PatternSet) (text : List ℤ) (count room : ℕ) → count ≡ length (hits ps text) → room < 2 * count
+    → false ≡ leb (2 * length (hits ps text)) room
+counted-long ps text count room e h = sym (lt-leb (2 * length (hits ps text)) room (omega (arith, e, h)))
 
 module _ (ps : PatternSet) (text : List ℤ) (out : List ℕ) (rises : List ℤ) where
   -- what the answer tells, as numbers, and what is in the arrays: it is what the search is to

@@ -1,9 +1,10 @@
 // The filter search. Document 01: A tail search. Document 02, 2.6 and 2.7.
-ghost use Rattle.lists.specs.Prelude.{_≡_, _*_, _≤_, T, leb, length};
+ghost use Rattle.lists.specs.Prelude.{_≡_, true, _*_, _≤_, T, leb, length};
 ghost use Rattle.answers.specs.Told.{toldFiltered};
 ghost use Rattle.pattern_set.specs.PatternSet.{patternsOf, IsSet, maySearch};
 ghost use Rattle.matching.specs.Matching.{hits, candidates};
 ghost use Rattle.entries.specs.Entries.{told, after, filterEntry, filterRises};
+ghost use Rattle.filter_checks.specs.Groups.{Groups};
 ghost use Rattle.filter_windows.specs.Looks.{HitTables};
 ghost use Rattle.filter_passes.specs.Passes.{HitsMarked};
 ghost use Rattle.filter_search.specs.Search.{foundEntry, foundRises};
@@ -11,15 +12,18 @@ use answers::Filtered;
 use answers::Refusal;
 use answers::SetSize;
 use filter_passes::counting;
+use filter_passes::counting::Counted;
 use filter_passes::listing;
 use filter_passes::single;
 
-// Whether the list of hits fits into an array of room words. It does where even the candidates
-// would; else the hits are counted.
+// Whether the list of hits fits into an array of room words. It does where even as many as the
+// first pass has counted would. If that count is exact, it does nowhere else; if not, the hits are
+// counted.
 fn list_fits(
     set: &[u32],
     text: &[i32],
     count: usize,
+    exact: bool,
     room: usize,
     marks: &[u64; 256],
     ownlow: &[u64; 256],
@@ -30,13 +34,18 @@ fn list_fits(
     checks: &[u32],
 ) -> bool
     requires { ⌜ IsSet (now set) ⌝ }
-    requires { ⌜ (length (now text) ≤ 1048576) × (count ≡ candidates (patternsOf (now set)) (now text)) × (count ≤ 67108864) ⌝ }
+    requires { ⌜ length (now text) ≤ 1048576 ⌝ }
+    requires { ⌜ (length (hits (patternsOf (now set)) (now text)) ≤ count) × (count ≤ 67108864) ⌝ }
+    requires { ⌜ (exact ≡ true → count ≡ length (hits (patternsOf (now set)) (now text))) ⌝ }
     requires { ⌜ HitsMarked (patternsOf (now set)) (now text) (now marks) (length (now text)) ⌝ }
     requires { ⌜ HitTables (patternsOf (now set)) (now ownlow) (now ownhigh) (now fits) (now numbers) (now equal) (now checks) ⌝ }
     ensures { λ r. ⌜ r ≡ leb (2 * length (hits (patternsOf (now (set .entry))) (now (text .entry)))) room ⌝ }
 {
     if 2 * count <= room {
         return true;
+    }
+    if exact {
+        return false;
     }
     let found = listing::count_hits(
         set,
@@ -56,7 +65,7 @@ fn list_fits(
 fn list_hits(
     set: &[u32],
     text: &[i32],
-    count: usize,
+    counted: Counted,
     marks: &[u64; 256],
     ownlow: &[u64; 256],
     ownhigh: &[u64; 256],
@@ -64,14 +73,19 @@ fn list_hits(
     numbers: &[u32; 64],
     equal: &[u64; 64],
     checks: &[u32],
+    grouped: &[u32],
+    words: &[u32; 64],
     out: &mut [u32],
     rises: &mut [i32],
 ) -> Filtered
     requires { ⌜ IsSet (now set) ⌝ }
     requires { ⌜ (length (now text) ≤ 1048576) × (length (now out) ≤ 2 * length (now rises)) ⌝ }
-    requires { ⌜ (count ≡ candidates (patternsOf (now set)) (now text)) × (count ≤ 67108864) ⌝ }
+    requires { ⌜ counted .candidates ≡ candidates (patternsOf (now set)) (now text) ⌝ }
+    requires { ⌜ (length (hits (patternsOf (now set)) (now text)) ≤ counted .hits) × (counted .hits ≤ 67108864) ⌝ }
+    requires { ⌜ (counted .exact ≡ true → counted .hits ≡ length (hits (patternsOf (now set)) (now text))) ⌝ }
     requires { ⌜ HitsMarked (patternsOf (now set)) (now text) (now marks) (length (now text)) ⌝ }
     requires { ⌜ HitTables (patternsOf (now set)) (now ownlow) (now ownhigh) (now fits) (now numbers) (now equal) (now checks) ⌝ }
+    requires { ⌜ (length (now grouped) ≡ 64) × Groups (length (patternsOf (now set))) (now numbers) (now equal) (now grouped) (now words) ⌝ }
     ensures { λ r. ⌜ toldFiltered r ≡ told (0, 0) (foundEntry (patternsOf (now (set .entry))) (now (text .entry)) (now (out .entry))) ⌝ }
     ensures { λ _. ⌜ now (out .exit) ≡ after (foundEntry (patternsOf (now (set .entry))) (now (text .entry)) (now (out .entry))) (now (out .entry)) ⌝ }
     ensures { λ _. ⌜ now (rises .exit) ≡ after (foundRises (patternsOf (now (set .entry))) (now (text .entry)) (now (out .entry))) (now (rises .entry)) ⌝ }
@@ -80,7 +94,8 @@ fn list_hits(
     if !list_fits(
         set,
         text,
-        count,
+        counted.hits,
+        counted.exact,
         room,
         marks,
         ownlow,
@@ -102,14 +117,16 @@ fn list_hits(
         numbers,
         equal,
         checks,
+        grouped,
+        words,
         out,
         rises,
     );
-    Filtered::Found(found, count)
+    Filtered::Found(found, counted.candidates)
 }
 
-// Two passes, for any array: one counts the candidates and marks the blocks that have hits, one
-// lists the hits.
+// Two passes, for any array: one counts the candidates and the hits and marks the blocks that have
+// hits, one lists the hits.
 fn two_passes(
     set: &[u32],
     text: &[i32],
@@ -119,18 +136,21 @@ fn two_passes(
     numbers: &[u32; 64],
     equal: &[u64; 64],
     checks: &[u32],
+    grouped: &[u32],
+    words: &[u32; 64],
     out: &mut [u32],
     rises: &mut [i32],
 ) -> Filtered
     requires { ⌜ IsSet (now set) ⌝ }
     requires { ⌜ (length (now text) ≤ 1048576) × (length (now out) ≤ 2 * length (now rises)) ⌝ }
     requires { ⌜ HitTables (patternsOf (now set)) (now ownlow) (now ownhigh) (now fits) (now numbers) (now equal) (now checks) ⌝ }
+    requires { ⌜ (length (now grouped) ≡ 64) × Groups (length (patternsOf (now set))) (now numbers) (now equal) (now grouped) (now words) ⌝ }
     ensures { λ r. ⌜ toldFiltered r ≡ told (0, 0) (foundEntry (patternsOf (now (set .entry))) (now (text .entry)) (now (out .entry))) ⌝ }
     ensures { λ _. ⌜ now (out .exit) ≡ after (foundEntry (patternsOf (now (set .entry))) (now (text .entry)) (now (out .entry))) (now (out .entry)) ⌝ }
     ensures { λ _. ⌜ now (rises .exit) ≡ after (foundRises (patternsOf (now (set .entry))) (now (text .entry)) (now (out .entry))) (now (rises .entry)) ⌝ }
 {
     let mut marks = [0u64; 256];
-    let count = counting::first_pass(
+    let counted = counting::first_pass(
         set,
         text,
         numbers,
@@ -144,7 +164,7 @@ fn two_passes(
     list_hits(
         set,
         text,
-        count,
+        counted,
         &marks,
         ownlow,
         ownhigh,
@@ -152,6 +172,8 @@ fn two_passes(
         numbers,
         equal,
         checks,
+        grouped,
+        words,
         out,
         rises,
     )
@@ -177,12 +199,15 @@ fn search_by(
     numbers: &[u32; 64],
     equal: &[u64; 64],
     checks: &[u32],
+    grouped: &[u32],
+    words: &[u32; 64],
     out: &mut [u32],
     rises: &mut [i32],
 ) -> Filtered
     requires { ⌜ IsSet (now set) ⌝ }
     requires { ⌜ (length (now text) ≤ 1048576) × (length (now out) ≤ 2 * length (now rises)) ⌝ }
     requires { ⌜ HitTables (patternsOf (now set)) (now ownlow) (now ownhigh) (now fits) (now numbers) (now equal) (now checks) ⌝ }
+    requires { ⌜ (length (now grouped) ≡ 64) × Groups (length (patternsOf (now set))) (now numbers) (now equal) (now grouped) (now words) ⌝ }
     ensures { λ r. ⌜ toldFiltered r ≡ told (0, 0) (foundEntry (patternsOf (now (set .entry))) (now (text .entry)) (now (out .entry))) ⌝ }
     ensures { λ _. ⌜ now (out .exit) ≡ after (foundEntry (patternsOf (now (set .entry))) (now (text .entry)) (now (out .entry))) (now (out .entry)) ⌝ }
     ensures { λ _. ⌜ now (rises .exit) ≡ after (foundRises (patternsOf (now (set .entry))) (now (text .entry)) (now (out .entry))) (now (rises .entry)) ⌝ }
@@ -199,6 +224,8 @@ fn search_by(
             numbers,
             equal,
             checks,
+            grouped,
+            words,
             out,
             rises,
         );
@@ -213,6 +240,8 @@ fn search_by(
             numbers,
             equal,
             checks,
+            grouped,
+            words,
             out,
             rises,
         )
@@ -231,11 +260,14 @@ fn search(set: &[u32], text: &[i32], out: &mut [u32], rises: &mut [i32]) -> Filt
     let mut numbers = [0u32; 64];
     let mut equal = [0u64; 64];
     let mut checks = [0u32; 4096];
+    let mut grouped = [0u32; 64];
+    let mut words = [0u32; 64];
     let mut ownlow = [0u64; 256];
     let mut ownhigh = [0u64; 256];
     let mut fits = [0u64; 256];
     filter_tables::fill_numbers(set, &mut numbers);
     filter_checks::equal::fill_equal(set, &numbers, &mut equal);
+    filter_checks::groups::fill_groups(set, &numbers, &equal, &mut grouped, &mut words);
     filter_checks::comparisons::fill_comparisons(set, &mut checks);
     filter_tables::fill_own_tables(set, &numbers, &mut ownlow, &mut ownhigh);
     filter_tables::fill_fits(set, &numbers, &mut fits);
@@ -248,6 +280,8 @@ fn search(set: &[u32], text: &[i32], out: &mut [u32], rises: &mut [i32]) -> Filt
         &numbers,
         &equal,
         &checks,
+        &grouped,
+        &words,
         out,
         rises,
     )

@@ -4,3 +4,4 @@ pub mod Samples
 pub mod Lookups
 pub mod RankSets
 pub mod Windows
+pub mod Groups

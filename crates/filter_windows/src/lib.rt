@@ -6,7 +6,8 @@ ghost use Rattle.matching.specs.Matching.{shortest, isCandidate};
 ghost use Rattle.filter_plan.specs.Plan.{textFingerprint, isLikely, isHit};
 ghost use Rattle.filter_tables.specs.Tables.{TableOf, ownLow, ownHigh, fitsAt};
 ghost use Rattle.filter_checks.specs.Comparisons.{Comparisons};
-ghost use Rattle.filter_windows.specs.Looks.{newBit, Since, Alike, Fitting, Looked, SetOf, SetTables, CheckTables, HitTables};
+ghost use Rattle.filter_windows.specs.Looks.{newBit, Since, Alike, Fitting, Looked, SetOf, SetTables, OwnTables, CheckTables, HitTables};
+ghost use Rattle.filter_windows.specs.Groups.{LikelyGroups, NoneHit, HitGroup};
 
 // ---- fingerprints
 
@@ -237,9 +238,58 @@ fn has_hit(set: &[u32], text: &[i32], p: usize, j: usize, checks: &[u32]) -> boo
     filter_checks::check::passes(set, j, checks, &text[begin..end])
 }
 
-// Of the likely patterns those that have a hit at the last place p. Of equal patterns one is
-// checked. The longest are checked first; after a hit of one of them only shorter ones are left, as
-// of one length only equal patterns have a hit at one place.
+// A group of equal patterns: one of its ranks, and how many values they have, or 0 for no group;
+// and the ranks that are left behind it.
+pub struct Group {
+    pub rank: usize,
+    pub length: usize,
+    pub rest: u64,
+}
+
+// The first group of those left that has a hit at the last place p, the longest patterns first. Of
+// equal patterns one is checked. Behind a hit only shorter ones are left, as of one length only
+// equal patterns have a hit at one place.
+pub fn next_group(
+    set: &[u32],
+    text: &[i32],
+    p: usize,
+    left: u64,
+    fits: &[u64; 256],
+    numbers: &[u32; 64],
+    equal: &[u64; 64],
+    checks: &[u32],
+) -> Group
+    requires { ⌜ IsSet (now set) ⌝ }
+    requires { ⌜ p < length (now text) ⌝ }
+    requires { ⌜ LikelyGroups (patternsOf (now set)) (take (suc p) (now text)) left ⌝ }
+    requires { ⌜ TableOf (patternsOf (now set)) fitsAt (now fits) ⌝ }
+    requires { ⌜ CheckTables (patternsOf (now set)) (now numbers) (now equal) (now checks) ⌝ }
+    ensures { λ g. ⌜ (g .length ≡ 0 → NoneHit (patternsOf (now (set .entry))) (take (suc p) (now (text .entry))) left) ⌝ }
+    ensures { λ g. ⌜ (0 < g .length → (g .rank < length (patternsOf (now (set .entry))))
+        × HitGroup (patternsOf (now (set .entry))) (take (suc p) (now (text .entry))) left (getD (now (equal .entry)) (g .rank) 0) (g .length) (g .rest)) ⌝ }
+{
+    let mut rest = left;
+    while rest != 0 {
+        let r = bit_sets::lowest(rest);
+        let j = casts::wide(numbers[r]);
+        if has_hit(set, text, p, j, checks) {
+            let m = set_access::pattern_length(set, j);
+            return Group {
+                rank: r,
+                length: m,
+                rest: fitting(rest, fits, m - 1),
+            };
+        }
+        rest = bit_sets::without(rest, equal[r]);
+    }
+    Group {
+        rank: 0,
+        length: 0,
+        rest: 0,
+    }
+}
+
+// Of the likely patterns those that have a hit at the last place p, group by group.
 fn verified(
     set: &[u32],
     text: &[i32],
@@ -260,17 +310,58 @@ fn verified(
     let mut rest = likely;
     let mut found = 0;
     while rest != 0 {
-        let r = bit_sets::lowest(rest);
-        let members = equal[r];
-        let j = casts::wide(numbers[r]);
-        if has_hit(set, text, p, j, checks) {
-            found = bit_sets::either(found, members);
-            rest = fitting(rest, fits, set_access::pattern_length(set, j) - 1);
-        } else {
-            rest = bit_sets::without(rest, members);
+        let g = next_group(set, text, p, rest, fits, numbers, equal, checks);
+        if g.length == 0 {
+            return found;
         }
+        let r = g.rank;
+        found = bit_sets::either(found, equal[r]);
+        rest = g.rest;
     }
     found
+}
+
+// The likely patterns of the last place p, where own is the fingerprint of the last 17 values, and
+// begin is where the samples behind the last gap up to p begin. The words of the set and the text
+// are only there for the contract.
+pub fn likely_at(
+    set: &[u32],
+    text: &[i32],
+    p: usize,
+    own: u32,
+    begin: usize,
+    ownlow: &[u64; 256],
+    ownhigh: &[u64; 256],
+    fits: &[u64; 256],
+) -> u64
+    requires { ⌜ IsSet (now set) ⌝ }
+    requires { ⌜ (p < length (now text)) × (own ≡ textFingerprint 17 (take (suc p) (now text))) × Since (now text) (suc p) begin ⌝ }
+    requires { ⌜ OwnTables (patternsOf (now set)) (now ownlow) (now ownhigh) (now fits) ⌝ }
+    ensures { λ s. ⌜ SetOf (patternsOf (now (set .entry))) (isLikely (take (suc p) (now (text .entry)))) s ⌝ }
+{
+    look(ownlow, ownhigh, fits, own, p + 1 - begin)
+}
+
+// The likely patterns of the last place p, of which the candidates are known, where own is the
+// fingerprint of the last 17 values: a pattern that is likely is a candidate. The words of the set
+// and the text are only there for the contract.
+pub fn likely_among(
+    set: &[u32],
+    text: &[i32],
+    p: usize,
+    own: u32,
+    candidates: u64,
+    ownlow: &[u64; 256],
+    ownhigh: &[u64; 256],
+) -> u64
+    requires { ⌜ IsSet (now set) ⌝ }
+    requires { ⌜ (p < length (now text)) × (own ≡ textFingerprint 17 (take (suc p) (now text))) ⌝ }
+    requires { ⌜ SetOf (patternsOf (now set)) (isCandidate (shortest 17 (patternsOf (now set))) (take (suc p) (now text))) candidates ⌝ }
+    requires { ⌜ TableOf (patternsOf (now set)) ownLow (now ownlow) × TableOf (patternsOf (now set)) ownHigh (now ownhigh) ⌝ }
+    ensures { λ s. ⌜ SetOf (patternsOf (now (set .entry))) (isLikely (take (suc p) (now (text .entry)))) s ⌝ }
+{
+    let alike = by_fingerprint(ownlow, ownhigh, own);
+    bit_sets::common(alike, candidates)
 }
 
 // The patterns that have a hit at the last place p, where own is the fingerprint of the last 17
@@ -293,16 +384,12 @@ pub fn hits_at(
     requires { ⌜ HitTables (patternsOf (now set)) (now ownlow) (now ownhigh) (now fits) (now numbers) (now equal) (now checks) ⌝ }
     ensures { λ s. ⌜ SetOf (patternsOf (now (set .entry))) (isHit (take (suc p) (now (text .entry)))) s ⌝ }
 {
-    let likely = look(ownlow, ownhigh, fits, own, p + 1 - begin);
-    if likely == 0 {
-        0
-    } else {
-        verified(set, text, p, likely, fits, numbers, equal, checks)
-    }
+    let likely = likely_at(set, text, p, own, begin, ownlow, ownhigh, fits);
+    verified(set, text, p, likely, fits, numbers, equal, checks)
 }
 
 // The patterns that have a hit at the last place p, of which the candidates are known, where own is
-// the fingerprint of the last 17 values: a pattern that is likely is a candidate.
+// the fingerprint of the last 17 values.
 pub fn hits_among(
     set: &[u32],
     text: &[i32],
@@ -324,11 +411,6 @@ pub fn hits_among(
     requires { ⌜ CheckTables (patternsOf (now set)) (now numbers) (now equal) (now checks) ⌝ }
     ensures { λ s. ⌜ SetOf (patternsOf (now (set .entry))) (isHit (take (suc p) (now (text .entry)))) s ⌝ }
 {
-    let alike = by_fingerprint(ownlow, ownhigh, own);
-    let likely = bit_sets::common(alike, candidates);
-    if likely == 0 {
-        0
-    } else {
-        verified(set, text, p, likely, fits, numbers, equal, checks)
-    }
+    let likely = likely_among(set, text, p, own, candidates, ownlow, ownhigh);
+    verified(set, text, p, likely, fits, numbers, equal, checks)
 }

@@ -69,16 +69,6 @@ length-flatten-take xs j =
     ∙ ap length (sym (flatten-append (take j xs) (drop j xs)) ∙ ap flatten (take-append-drop j xs)) in
     omega arith
 
--- tables of lists with shorter rows are shorter
-pub flatten-le : {A B : Type 0} (f : ℕ → List A) (g : ℕ → List B) (n : ℕ) → ((i : ℕ) → i < n → length (f i) ≤ length (g i))
-    → length (flatten (tabulate n f)) ≤ length (flatten (tabulate n g))
-unfolding tabulate flatten
-flatten-le f g zero h = le-refl 0
-flatten-le f g (suc n) h =
-    let ih = flatten-le f g n (λ i l. h i (omega arith)) in
-    let last = h n (omega arith) in
-    rw (flatten-tabulate n f, flatten-tabulate n g, length-append (flatten (tabulate n f)) (f n), length-append (flatten (tabulate n g)) (g n)) (omega arith)
-
 -- ---- rows of sixteen words
 
 pub length-rows : {A : Type 0} (n : ℕ) (f : ℕ → List A) → ((i : ℕ) → length (f i) ≡ 16) → length (flatten (tabulate n f)) ≡ 16 * n

@@ -1,6 +1,6 @@
 -- The ways through this crate's functions, in the machine's words.
-use Rattle.lists.proofs.Prelude.{_≡_, _∙_, ap, sym, refl, subst, ap₂, Bool, true, false, cond, _&&_, List, ℕ, zero, suc, _+_, _-_, _%_, _≤_, _<_, ℤ, pos, leZ}
-use Rattle.lists.proofs.Prelude.{T, leb, ltb, ltb→lt, lt→ltb, getD, set, add-one, decLt, arith, le-ltb, lt-ltb, lastBelow}
+use Rattle.lists.proofs.Prelude.{_≡_, _∙_, ap, sym, refl, subst, ap₂, Bool, true, false, cond, _&&_, List, [], ℕ, zero, suc, _+_, _-_, _%_, _≤_, _<_}
+use Rattle.lists.proofs.Prelude.{ℤ, pos, leZ, T, leb, ltb, ltb→lt, lt→ltb, getD, set, add-one, decLt, arith, le-ltb, lt-ltb, lastBelow}
 use Rattle.lists.proofs.Tests.{and-split, and-join, test-ext, T-true, true-T}
 use Rattle.lists.proofs.LastBelow.{lastBelow-yes, lastBelow-no, lastBelow-end}
 use Rattle.search_model.specs.Ring.{Ring, slot, placeAt, valueAt, goodRing, isOld, aged, back, distanceOf, kept}
@@ -172,6 +172,11 @@ module _ (start next : ℕ) (places : List ℕ) (values : List ℤ) (x : ℤ) (t
   unfolding kept
   kept-all = refl
 
+  -- those from a counter on are closed, whatever the places
+  pub kept-from : (at : ℕ) → kept (ringFrom start at [] values) x ≡ kept (ringFrom start next [] values) x → kept ring x ≡ keptBefore at
+  unfolding kept
+  kept-from at e = sym e
+
   -- the newest before a counter
   newest-slot : (at : ℕ) → start < at → (at - 1) % 256 ≡ slot ring (at - start - 1)
   newest-slot at h = omega arith
@@ -204,6 +209,54 @@ module _ (start next : ℕ) (places : List ℕ) (values : List ℤ) (x : ℤ) (t
   kept-none at h l e =
       let k : 0 ≡ kept ring x = lastBelow-end (λ i. leZ (valueAt ring i) x) (at - start) (omega arith) ∙ sym e in
       record { at = omega arith; distance = ap (back taken ring) k }
+
+-- ---- three closed at once
+
+-- how many of three tests fail before the first that holds
+abbrev failedFirst : Bool → Bool → Bool → ℕ
+failedFirst a b c = cond a 0 (cond b 1 (cond c 2 3))
+
+pub failed-few : (a b c : Bool) (n : ℕ) → n ≡ failedFirst a b c → n ≤ 3
+failed-few true b c n e = omega arith
+failed-few false true c n e = omega arith
+failed-few false false true n e = omega arith
+failed-few false false false n e = omega arith
+
+module _ (start next : ℕ) (values : List ℤ) (x : ℤ) where
+  -- is the value in the slot of a counter not above
+  abbrev NotAbove : ℕ → Bool
+  NotAbove at = leZ (getD values (at % 256) (pos 0)) x
+
+  -- those from the counter on are all closed
+  abbrev Closed : ℕ → Type 0
+  Closed at = kept (ringFrom start next [] values) x ≡ keptBefore start next [] values x 0 at
+
+  one-closed : (at to : ℕ) → to ≡ at - 1 → start < at → NotAbove to ≡ false → Closed at → Closed to
+  one-closed at to e h t s = subst Closed (sym e) (kept-closed start next [] values x 0 at h s (ap NotAbove (sym e) ∙ t))
+
+  closed-from : (at n : ℕ) → at ≡ next - n → start ≤ at → Closed at
+      → (start ≤ next - n) × (next - n ≤ next) × (kept (ringFrom start (next - n) [] values) x ≡ kept (ringFrom start next [] values) x)
+  unfolding kept
+  closed-from at n e h s = (omega arith, omega arith, sym (subst Closed e s))
+
+  pub three-closed : start + 3 ≤ next → (n : ℕ) → n ≡ failedFirst (NotAbove (next - 1)) (NotAbove (next - 2)) (NotAbove (next - 3))
+      → (start ≤ next - n) × (next - n ≤ next) × (kept (ringFrom start (next - n) [] values) x ≡ kept (ringFrom start next [] values) x)
+  three-closed h n e = go (NotAbove (next - 1)) refl (NotAbove (next - 2)) refl (NotAbove (next - 3)) refl e
+    where
+      none : Closed next
+      none = kept-all start next [] values x 0
+
+      go : (a : Bool) → NotAbove (next - 1) ≡ a → (b : Bool) → NotAbove (next - 2) ≡ b → (c : Bool) → NotAbove (next - 3) ≡ c → n ≡ failedFirst a b c
+          → (start ≤ next - n) × (next - n ≤ next) × (kept (ringFrom start (next - n) [] values) x ≡ kept (ringFrom start next [] values) x)
+      go true p b q c r e = closed-from next n (omega arith) (omega arith) none
+      go false p true q c r e =
+          closed-from (next - 1) n (omega arith) (omega arith) (one-closed next (next - 1) refl (omega arith) p none)
+      go false p false q true r e =
+          closed-from (next - 2) n (omega arith) (omega arith) (one-closed (next - 1) (next - 2) (omega arith) (omega arith) q
+          (one-closed next (next - 1) refl (omega arith) p none))
+      go false p false q false r e =
+          closed-from (next - 3) n (omega arith) (omega arith) (one-closed (next - 2) (next - 3) (omega arith) (omega arith) r
+          (one-closed (next - 1) (next - 2) (omega arith) (omega arith) q (one-closed next (next - 1) refl (omega arith) p none)))
 
 -- ---- the push
 

@@ -2,8 +2,8 @@
 // the check of a ring that a caller hands in. The open minima have the counters from `first` on to
 // before `next`, the oldest first; counter c lies in slot c mod 256. So a ring of 256 differs from
 // an empty one, in which both counters are the same.
-ghost use Rattle.lists.specs.Prelude.{_≡_, true, cond, _&&_, ℕ, _+_, _-_, _%_, _≤_, _<_, leb, ltb, pos, leZ, length, getD, set};
-ghost use Rattle.search_model.specs.Ring.{placeAt, goodRing};
+ghost use Rattle.lists.specs.Prelude.{_≡_, true, cond, _&&_, ℕ, _+_, _-_, _%_, _≤_, _<_, leb, ltb, pos, leZ, [], length, getD, set};
+ghost use Rattle.search_model.specs.Ring.{placeAt, kept, goodRing};
 ghost use Rattle.open_minima.specs.Parts.{ringAt, ringFrom, AreCounters, follows, inOrder, IsKept, IsPushed};
 use answers::SearchState;
 
@@ -52,6 +52,39 @@ fn drop_oldest(places: &[u32; 256], first: usize, next: usize, taken: u32) -> us
     first + is_old(places[first % 256], taken)
 }
 
+// How many of three tests fail before the first that holds.
+fn failed_first(a: bool, b: bool, c: bool) -> usize
+    ensures { λ r. ⌜ r ≡ cond a 0 (cond b 1 (cond c 2 3)) ⌝ }
+{
+    if a {
+        return 0;
+    }
+    if b {
+        return 1;
+    }
+    if c {
+        return 2;
+    }
+    3
+}
+
+// Closes up to three open minima above value i of the call, from the newest down; the counter
+// behind the newest that is left. It compares all three and then counts: how many are closed is
+// hard to predict, so a branch on each would cost more.
+fn close_three(heights: &[i32; 256], start: usize, next: usize, values: &[i32], i: usize) -> usize
+    requires { ⌜ (start ≤ next) × (i < length (now values)) ⌝ }
+    ensures { λ r. ⌜ (start ≤ r) × (r ≤ next) × (kept (ringFrom start r [] (now (heights .entry))) (getD (now (values .entry)) i (pos 0))
+        ≡ kept (ringFrom start next [] (now (heights .entry))) (getD (now (values .entry)) i (pos 0))) ⌝ }
+{
+    if next - start < 3 {
+        return next;
+    }
+    let a = not_above(heights, next - 1, values, i);
+    let b = not_above(heights, next - 2, values, i);
+    let c = not_above(heights, next - 3, values, i);
+    next - failed_first(a, b, c)
+}
+
 // Closes the open minima above value i of the call, from the newest down.
 fn keep(
     places: &[u32; 256],
@@ -66,7 +99,7 @@ fn keep(
     requires { ⌜ ((j : ℕ) → j < next - start → placeAt (ringFrom start next (now places) (now heights)) j < taken) ⌝ }
     ensures { λ r. ⌜ IsKept taken start (ringFrom start next (now (places .entry)) (now (heights .entry))) (getD (now (values .entry)) i (pos 0)) r ⌝ }
 {
-    let mut at = next;
+    let mut at = close_three(heights, start, next, values, i);
     while at > start {
         let newest = at - 1;
         if not_above(heights, newest, values, i) {

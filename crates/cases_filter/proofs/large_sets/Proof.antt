@@ -4,10 +4,10 @@ use Rattle.cases_filter.proofs.large_sets.Statement.{statement}
 use Rattle.cases_filter.proofs.large_sets.Tie as tie
 
 abbrev Inv-loop : tie.InvT-loop
-Inv-loop group n t₀ i₀ t i = i ≤ n
+Inv-loop group n values most t₀ i₀ t i = i ≤ n
 
 abbrev μ-loop : tie.MeasureT-loop
-μ-loop group n t₀ i₀ t i = n - i
+μ-loop group n values most t₀ i₀ t i = n - i
 
 none-requires : tie.Need-none-requires Inv-loop μ-loop
 none-requires c κs = search needs

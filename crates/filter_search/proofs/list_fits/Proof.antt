@@ -1,10 +1,8 @@
--- There are no more hits than candidates, so where the candidates would fit, the hits need not be
--- counted.
+-- No hit is left out of what was counted, so where that would fit, the hits do; and an exact count
+-- that would not fit is that of the hits.
 use Rattle.lists.proofs.Prelude.{ap, ℕ, _*_, leb, arith, needs}
 use Rattle.pattern_set.specs.PatternSet.{patternsOf}
-use Rattle.pattern_set.proofs.IsSet.{set-good}
-use Rattle.filter_plan.proofs.Candidates.{hits-candidates}
-use Rattle.filter_search.proofs.Answers.{candidates-fit}
+use Rattle.filter_search.proofs.Answers.{counted-fit, counted-long}
 use Rattle.filter_search.proofs.list_fits.Statement.{statement}
 use Rattle.filter_search.proofs.list_fits.Tie as tie
 
@@ -15,19 +13,26 @@ returns : tie.Need-returns
 returns c =
     let s = c .before .before .before in
     let a = s .args in
-    candidates-fit (patternsOf (a .set .now)) (a .text .now) (a .count) (a .room) (set-good (a .set .now) (s .pre .0)) (s .pre .1 .0 .1) (c .if1 .taken)
+    counted-fit (patternsOf (a .set .now)) (a .text .now) (a .count) (a .room) (s .pre .1 .1 .0 .0) (c .if1 .taken)
+
+returns-2 : tie.Need-returns-2
+returns-2 c =
+    let s = c .before .before .before .before in
+    let a = s .args in
+    counted-long (patternsOf (a .set .now)) (a .text .now) (a .count) (a .room) (s .pre .1 .1 .1 .0 (c .if2 .taken)) (c .before .if1 .left)
 
 count-hits-requires : tie.Need-count-hits-requires
-count-hits-requires c κs = search needs
+count-hits-requires c κs =
+    let s = c .before .before .before .before in
+    (s .pre .0, (s .pre .1 .0, s .pre .1 .1 .1 .1))
 
 mul-result : tie.Need-mul-result
 mul-result c =
-    let s = c .before .before .before .before in
-    let a = s .args in
-    omega (arith, c .count-hits .ensures, s .pre .1 .0 .1, hits-candidates (patternsOf (a .set .now)) (a .text .now) (set-good (a .set .now) (s .pre .0)))
+    let s = c .before .before .before .before .before in
+    omega (arith, c .count-hits .ensures, s .pre .1 .1 .0 .0, s .pre .1 .1 .0 .1)
 
-returns-2 : tie.Need-returns-2
-returns-2 c = ap (λ (n : ℕ). leb (2 * n) (c .before .before .before .before .args .room)) (c .count-hits .ensures)
+returns-3 : tie.Need-returns-3
+returns-3 c = ap (λ (n : ℕ). leb (2 * n) (c .before .before .before .before .before .args .room)) (c .count-hits .ensures)
 
 pub list-fits-spec : {M : Type 1} → statement M
-list-fits-spec = tie.close (tie.spec mul-if1 returns count-hits-requires mul-result returns-2)
+list-fits-spec = tie.close (tie.spec mul-if1 returns returns-2 count-hits-requires mul-result returns-3)

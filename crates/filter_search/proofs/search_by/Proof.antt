@@ -14,10 +14,10 @@ takes-all-requires c κs = search needs
 
 -- the list fits
 room : (c : tie.Then1) →
-    let a = c .before .before .before .before .before .args in
+    let a = c .before .before .before .before .before .before .args in
     2 * length (hits (patternsOf (a .set .now)) (a .text .now)) ≤ length (a .out .now)
 room c =
-    let s = c .before .before .before .before .before in
+    let s = c .before .before .before .before .before .before in
     let a = s .args in
     let ps = patternsOf (a .set .now) in
     let n = length (a .text .now) in
@@ -27,11 +27,11 @@ room c =
 one-pass-requires : tie.Need-one-pass-requires
 one-pass-requires c κs =
     let t = c .before .before in
-    let s = t .before .before .before .before .before in
+    let s = t .before .before .before .before .before .before in
     (s .pre .0, ((s .pre .1 .0 .0, room t), (omega (arith, room t, s .pre .1 .0 .1), s .pre .1 .1)))
 
 two-passes-requires : tie.Need-two-passes-requires
-two-passes-requires c κs = let s = c .before .before .before .before .before .before .before in s .pre
+two-passes-requires c κs = let s = c .before .before .before .before .before .before .before .before in s .pre
 
 same-length : tie.Need-same-length
 same-length c = search needs
@@ -43,7 +43,7 @@ returns : tie.Need-returns
 returns c =
     let o = c .before .before .before in
     let t = o .before .before .before in
-    let s = t .before .before .before .before .before in
+    let s = t .before .before .before .before .before .before in
     let a = s .args in
     let e = o .one-pass .ensures in
     list-found (patternsOf (a .set .now)) (a .text .now) (a .out .now) (a .rises .now) (le-leb _ _ (room t)) (s .pre .1 .0 .1) _ _ _ _

@@ -5,15 +5,15 @@ use Rattle.filter_search.proofs.two_passes.Tie as tie
 
 first-pass-requires : tie.Need-first-pass-requires
 first-pass-requires c κs =
-    let s = c .before .before .before .before in
-    (s .pre .0, ((s .pre .1 .0 .0, length-replicate {A = ℕ} 256 0), s .pre .1 .1))
+    let s = c .before .before .before .before .before in
+    (s .pre .0, ((s .pre .1 .0 .0, length-replicate {A = ℕ} 256 0), s .pre .1 .1 .0))
 
 list-hits-requires : tie.Need-list-hits-requires
 list-hits-requires c κs =
     let f = c .before .before .before in
-    let s = f .before .before .before .before .before in
+    let s = f .before .before .before .before .before .before in
     let e = f .first-pass .ensures in
-    (s .pre .0, (s .pre .1 .0, ((e .0, e .1 .0), (e .1 .1, s .pre .1 .1))))
+    (s .pre .0, (s .pre .1 .0, (e .0, (e .1 .0, (e .1 .1 .0, (e .1 .1 .1, s .pre .1 .1))))))
 
 same-length : tie.Need-same-length
 same-length c = search needs

@@ -1,22 +1,21 @@
 -- The loop stores the set at its members, lowest first; those that are left have what they had.
-use Rattle.lists.proofs.Prelude.{_≡_, _∙_, ap, subst, not, _&&_, Bool, ℕ, _<_, T, eqb, cond, length, getD, length-set, needs}
-use Rattle.lists.proofs.Tests.{and-split, and-true}
+use Rattle.lists.proofs.Prelude.{_≡_, _∙_, subst, not, ℕ, _<_, T, eqb, length, length-set, needs}
+use Rattle.lists.proofs.Tests.{and-split}
 use Rattle.bit_sets.specs.BitSets.{bitAt}
-use Rattle.bit_sets.proofs.Digits.{bitAt-none}
 use Rattle.bit_sets.proofs.Laws.{lowest-in, lowest-out}
-use Rattle.filter_checks.proofs.EqualRanks.{Stored, stored-start, stored-more}
+use Rattle.filter_checks.proofs.EqualRanks.{Stored, stored-start, stored-more, stored-end}
 use Rattle.filter_checks.proofs.equal.put_at_members.Statement.{statement}
 use Rattle.filter_checks.proofs.equal.put_at_members.Tie as tie
 
 abbrev Inv-loop : tie.InvT-loop
 Inv-loop table₀ members rest₀ table rest =
-    (length table ≡ 64) × ((s : ℕ) → s < 64 → T (bitAt rest s) → T (bitAt members s)) × Stored table₀ table members rest
+    (length table ≡ 64) × ((s : ℕ) → s < 64 → T (bitAt rest s) → T (bitAt members s)) × Stored table₀ table members members rest
 
 abbrev μ-loop : tie.MeasureT-loop
 μ-loop table₀ members rest₀ table rest = rest
 
 loop-holds : tie.Need-loop-holds Inv-loop μ-loop
-loop-holds c = (c .pre, λ s h t. t, stored-start (c .args .table .now) (c .args .members))
+loop-holds c = (c .pre, λ s h t. t, stored-start (c .args .table .now) (c .args .members) (c .args .members))
 
 lowest-requires : tie.Need-lowest-requires Inv-loop μ-loop
 lowest-requires c κs = search needs
@@ -43,7 +42,7 @@ loop-again c =
     let out = c .without-lowest .ensures .0 in (
       length-set (L .table) r (a .members) ∙ L .inv .0,
       λ s h t. L .inv .1 s h (and-split (not (eqb s r)) (bitAt (L .rest) s) (subst T (lowest-out (L .rest) rest r s (least .1) out h) t) .1),
-      stored-more (a .table .now) (L .table) (a .members) (L .rest) rest r (L .inv .0) (least .0) (least .1) out
+      stored-more (a .table .now) (L .table) (a .members) (a .members) (L .rest) rest r (L .inv .0) (least .0) (least .1) out
           (L .inv .1 r (least .0) (lowest-in (L .rest) r (least .1))) (L .inv .2),
     )
 
@@ -51,12 +50,7 @@ returns : tie.Need-returns Inv-loop μ-loop
 returns c =
     let a = c .before .before .args in
     let L = c .before .loop in
-    let none = c .loop-test .left in (
-      L .inv .0,
-      λ s h. L .inv .2 s h
-          ∙ ap (λ (b : Bool). cond (bitAt (a .members) s && not b) (a .members) (getD (a .table .now) s 0)) (ap (λ (m : ℕ). bitAt m s) none ∙ bitAt-none s)
-          ∙ ap (λ (b : Bool). cond b (a .members) (getD (a .table .now) s 0)) (and-true (bitAt (a .members) s)),
-    )
+    (L .inv .0, stored-end (a .table .now) (L .table) (a .members) (a .members) (L .rest) (c .loop-test .left) (L .inv .2))
 
 pub put-at-members-spec : {M : Type 1} → statement M
 put-at-members-spec =

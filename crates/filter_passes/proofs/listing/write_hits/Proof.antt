@@ -15,18 +15,21 @@ use Rattle.filter_passes.proofs.listing.write_hits.Statement.{statement
 use Rattle.filter_passes.proofs.listing.write_hits.Tie as tie
 
 abbrev Inv-loop : tie.InvT-loop
-Inv-loop set text marks ownlow ownhigh fits numbers equal checks out₀ rises₀ n to₀ begin₀ done₀ first₀ block₀ out rises to begin done first block =
+Inv-loop set text marks ownlow ownhigh fits numbers equal checks grouped words out₀ rises₀ n to₀ begin₀ done₀ first₀ block₀ out rises to begin done first
+    block =
     (first ≡ block * 64)
     × (done ≤ first)
     × Since text done begin
     × Written (riseIn (patternsOf set) text) out₀ out rises₀ rises 0 to (restHits (patternsOf set) text 0) (restHits (patternsOf set) text first)
 
 abbrev μ-loop : tie.MeasureT-loop
-μ-loop set text marks ownlow ownhigh fits numbers equal checks out₀ rises₀ n to₀ begin₀ done₀ first₀ block₀ out rises to begin done first block = n - first
+μ-loop set text marks ownlow ownhigh fits numbers equal checks grouped words out₀ rises₀ n to₀ begin₀ done₀ first₀ block₀ out rises to begin done first
+    block =
+    n - first
 
 loop-holds : tie.Need-loop-holds Inv-loop μ-loop
 loop-holds c =
-    let a = c .before .before .before .args in
+    let a = c .before .before .before .before .args in
     let ps = patternsOf (a .set .now) in
     let text = a .text .now in
     (omega arith, omega arith, since-start text, written-start (riseIn ps text) (a .out .now) (a .rises .now) 0 (restHits ps text 0))
@@ -49,7 +52,7 @@ write-block-requires c κs =
     let d = b .before in
     let t = d .before .before .before in
     let L = t .before .loop in
-    let s = t .before .before .before .before .before in
+    let s = t .before .before .before .before .before .before in
     let a = s .args in
     let ps = patternsOf (a .set .now) in
     let text = a .text .now in
@@ -58,8 +61,8 @@ write-block-requires c κs =
     let room =
     written-room (riseIn ps text) (a .out .now) (L .out) (a .rises .now) (L .rises) 0 (L .to) (restHits ps text 0) (restHits ps text (L .first)) (L .inv .3)
     (hitsFrom ps text (L .first) (end - L .first)) (restHits ps text (L .first + 64)) (block-step-to ps text (L .first) end (t .loop-test .taken) e)
-    (omega (arith, s .pre .1 .1 .1 .1 .0, ap length (hits-all ps text))) (omega (arith, s .pre .1 .1 .1 .1 .1, ap length (hits-all ps text))) in
-    (s .pre .0, ((omega arith, omega arith, omega arith, b .begin-before .ensures), (s .pre .1 .1 .1 .0, room)))
+    (omega (arith, s .pre .1 .1 .1 .1 .1 .0, ap length (hits-all ps text))) (omega (arith, s .pre .1 .1 .1 .1 .1 .1, ap length (hits-all ps text))) in
+    (s .pre .0, ((omega arith, omega arith, omega arith, b .begin-before .ensures), (s .pre .1 .1 .1 .0, (s .pre .1 .1 .1 .1 .0, room))))
 
 add-first : tie.Need-add-first Inv-loop μ-loop
 add-first c = omega arith
@@ -74,7 +77,7 @@ loop-again : tie.Need-loop-again Inv-loop μ-loop
 loop-again c =
     let t = c .before .before in
     let L = t .before .loop in
-    let s = t .before .before .before .before .before in
+    let s = t .before .before .before .before .before .before in
     let a = s .args in
     let ps = patternsOf (a .set .now) in
     let text = a .text .now in
@@ -113,7 +116,7 @@ same-length-2 c = c .before .loop .inv .3 .risesSize
 returns : tie.Need-returns Inv-loop μ-loop
 returns c =
     let L = c .before .loop in
-    let a = c .before .before .before .before .before .args in
+    let a = c .before .before .before .before .before .before .args in
     let ps = patternsOf (a .set .now) in
     let text = a .text .now in
     let none = hits-end ps text (L .first) (length text) (c .loop-test .left) in

@@ -12,19 +12,19 @@ shortest-length-requires c κs = search needs
 fill-set-tables-requires : tie.Need-fill-set-tables-requires
 fill-set-tables-requires c κs =
     let b = c .before .before in
-    let s = b .before .before .before .before in
-    (s .pre .0, ((s .pre .1 .1 .1 .check .ranks, b .shortest-length .ensures), (empty-zeros, empty-zeros)))
+    let s = b .before .before .before .before .before in
+    (s .pre .0, ((s .pre .1 .1 .1 .0 .check .ranks, b .shortest-length .ensures), (empty-zeros, empty-zeros)))
 
 search-places-requires : tie.Need-search-places-requires
 search-places-requires c κs =
     let f = c .before .before .before .before in
     let b = f .before .before .before in
-    let s = b .before .before .before .before in
+    let s = b .before .before .before .before .before in
     let t = f .fill-set-tables .ensures in
-    let hit = s .pre .1 .1 .1 in
+    let hit = s .pre .1 .1 .1 .0 in
     let tables =
     set-tables (patternsOf (s .args .set .now)) (b .shortest-length .result) _ _ _ (b .shortest-length .ensures) (t .0) (t .1) (hit .own .byPlace) in
-    (s .pre .0, (s .pre .1 .0, (s .pre .1 .1 .0, (tables, hit))))
+    (s .pre .0, (s .pre .1 .0, (s .pre .1 .1 .0, (tables, (hit, s .pre .1 .1 .1 .1)))))
 
 same-length : tie.Need-same-length
 same-length c = search needs

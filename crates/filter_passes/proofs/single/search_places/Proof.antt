@@ -15,12 +15,12 @@ use Rattle.filter_passes.proofs.single.search_places.Statement.{stateme
 use Rattle.filter_passes.proofs.single.search_places.Tie as tie
 
 abbrev Inv-loop : tie.InvT-loop
-Inv-loop set text setlow sethigh ownlow ownhigh fits numbers equal checks out₀ rises₀ b own₀ begin₀ count₀ to₀ p₀ out rises own begin count to p =
+Inv-loop set text setlow sethigh ownlow ownhigh fits numbers equal checks grouped words out₀ rises₀ b own₀ begin₀ count₀ to₀ p₀ out rises own begin count to p =
     Scan (patternsOf set) text p own begin count
     × Written (riseIn (patternsOf set) text) out₀ out rises₀ rises 0 to (restHits (patternsOf set) text 0) (restHits (patternsOf set) text p)
 
 abbrev μ-loop : tie.MeasureT-loop
-μ-loop set text setlow sethigh ownlow ownhigh fits numbers equal checks out₀ rises₀ b own₀ begin₀ count₀ to₀ p₀ out rises own begin count to p =
+μ-loop set text setlow sethigh ownlow ownhigh fits numbers equal checks grouped words out₀ rises₀ b own₀ begin₀ count₀ to₀ p₀ out rises own begin count to p =
     length text - p
 
 shortest-length-requires : tie.Need-shortest-length-requires Inv-loop μ-loop
@@ -28,7 +28,7 @@ shortest-length-requires c κs = search needs
 
 loop-holds : tie.Need-loop-holds Inv-loop μ-loop
 loop-holds c =
-    let a = c .before .before .before .before .args in
+    let a = c .before .before .before .before .before .args in
     let ps = patternsOf (a .set .now) in
     let text = a .text .now in
     (scan-start ps text, written-start (riseIn ps text) (a .out .now) (a .rises .now) 0 (restHits ps text 0))
@@ -36,13 +36,13 @@ loop-holds c =
 next-stop-requires : tie.Need-next-stop-requires Inv-loop μ-loop
 next-stop-requires c κs =
     let b = c .before in
-    let s = b .before .before .before .before in
+    let s = b .before .before .before .before .before in
     ((s .pre .0, b .shortest-length .ensures, s .pre .1 .1 .1 .0), c .loop .inv .0 .stands)
 
 -- where the pass stops
 stopped : (c : tie.After-next-stop Inv-loop μ-loop) →
     let L = c .before .loop in
-    let a = c .before .before .before .before .before .before .args in
+    let a = c .before .before .before .before .before .before .before .args in
     let ps = patternsOf (a .set .now) in
     let r = c .next-stop .result in
     Scan ps (a .text .now) (r .place) (r .own) (r .begin) (L .count)
@@ -50,7 +50,7 @@ stopped : (c : tie.After-next-stop Inv-loop μ-loop) →
     (restHits ps (a .text .now) 0) (restHits ps (a .text .now) (r .place))
 stopped c =
     let L = c .before .loop in
-    let s = c .before .before .before .before .before .before in
+    let s = c .before .before .before .before .before .before .before in
     let a = s .args in
     let ps = patternsOf (a .set .now) in
     let text = a .text .now in
@@ -73,7 +73,7 @@ returns : tie.Need-returns Inv-loop μ-loop
 returns c =
     let k = c .before .before in
     let L = k .before .loop in
-    let s = k .before .before .before .before .before .before in
+    let s = k .before .before .before .before .before .before .before in
     let a = s .args in
     let ps = patternsOf (a .set .now) in
     let text = a .text .now in
@@ -101,20 +101,19 @@ size-requires c κs = search needs
 add-count : tie.Need-add-count Inv-loop μ-loop
 add-count c =
     let k = c .before .before .before in
-    let s = k .before .before .before .before .before .before in
+    let s = k .before .before .before .before .before .before .before in
     let scan = stopped k .0 in
     let i = scan .stands .0 in
     omega (arith, s .pre .1 .0 .0, scan .bound, i, c .size .ensures, size-le (k .next-stop .result .candidates) (k .next-stop .ok .1 .1 .1 .1 .1 .0 .1))
 
-hits-among-requires : tie.Need-hits-among-requires Inv-loop μ-loop
-hits-among-requires c κs =
+likely-among-requires : tie.Need-likely-among-requires Inv-loop μ-loop
+likely-among-requires c κs =
     let e = c .before in
     let k = e .before .before in
-    let s = k .before .before .before .before .before .before in
-    let tables = s .pre .1 .1 .1 .1 in
+    let s = k .before .before .before .before .before .before .before in
+    let own = s .pre .1 .1 .1 .1 .0 .own in
     let lt = e .if1 .left in
-    let found = k .next-stop .ensures .1 .1 lt in
-    (s .pre .0, ((lt, stopped k .0 .stands .1 lt), (found .1, ((tables .own .byLow, tables .own .byHigh), (tables .own .byPlace, tables .check)))))
+    (s .pre .0, ((lt, stopped k .0 .stands .1 lt), (k .next-stop .ensures .1 .1 lt .1, (own .byLow, own .byHigh))))
 
 write-place-requires : tie.Need-write-place-requires Inv-loop μ-loop
 write-place-requires c κs =
@@ -122,32 +121,30 @@ write-place-requires c κs =
     let e = h .before .before in
     let k = e .before .before in
     let L = k .before .loop in
-    let s = k .before .before .before .before .before .before in
+    let s = k .before .before .before .before .before .before .before in
     let a = s .args in
     let ps = patternsOf (a .set .now) in
     let text = a .text .now in
     let lt = e .if1 .left in
-    let ranks = s .pre .1 .1 .1 .1 .check .ranks in
-    let found = h .hits-among in
+    let tables = s .pre .1 .1 .1 .1 .0 in
     let all = ap length (hits-all ps text) in
     let room =
-    place-room ps text (k .next-stop .result .place) (length text) lt (set-good (a .set .now) (s .pre .0)) (a .numbers .now)
-    (found .result) ranks (found .ensures) (riseIn ps text) (a .out .now) (L .out) (a .rises .now) (L .rises) 0 (L .to) (restHits ps text 0) (stopped k .1)
-    (omega (arith, s .pre .1 .0 .1, all)) (omega (arith, s .pre .1 .1 .0, all)) in
-    (s .pre .0, ((lt, s .pre .1 .0 .0), ((ranks, found .ensures), room)))
+    place-room ps text (k .next-stop .result .place) (length text) lt (riseIn ps text) (a .out .now) (L .out) (a .rises .now) (L .rises) 0 (L .to)
+    (restHits ps text 0) (stopped k .1) (omega (arith, s .pre .1 .0 .1, all)) (omega (arith, s .pre .1 .1 .0, all)) in
+    (s .pre .0, ((lt, s .pre .1 .0 .0), (h .likely-among .ensures, (tables .own .byPlace, (tables .check, (s .pre .1 .1 .1 .1 .1, room))))))
 
 add-p : tie.Need-add-p Inv-loop μ-loop
 add-p c =
     let e = c .before .before .before .before .before .before .before .before .before in
     let k = e .before .before in
-    let s = k .before .before .before .before .before .before in
+    let s = k .before .before .before .before .before .before .before in
     omega (arith, e .if1 .left, s .pre .1 .0 .0)
 
 own-at-requires : tie.Need-own-at-requires Inv-loop μ-loop
 own-at-requires c κs =
     let e = c .before .before .before .before .before .before .before .before .before in
     let k = e .before .before in
-    let text = k .before .before .before .before .before .before .args .text .now in
+    let text = k .before .before .before .before .before .before .before .args .text .now in
     let r = k .next-stop .result in
     let lt = e .if1 .left in
     let found = k .next-stop .ensures .1 .1 lt in
@@ -167,7 +164,7 @@ loop-again c =
     let e = z .before in
     let k = e .before .before in
     let L = k .before .loop in
-    let s = k .before .before .before .before .before .before in
+    let s = k .before .before .before .before .before .before .before in
     let a = s .args in
     let ps = patternsOf (a .set .now) in
     let text = a .text .now in
@@ -179,9 +176,8 @@ loop-again c =
       scan-next ps text (r .place) (r .own) (r .begin) (L .count) good (there .0)
           (c .own-at .result) (r .candidates) _ lt (c .own-at .ensures) (found .0) (found .1) (k .next-stop .ok .1 .1 .1 .1 .1 .0 .1)
           (ap (λ (n : ℕ). L .count + n) (z .size .ensures)),
-      place-written ps text (r .place) (length text) lt good (a .numbers .now) (h .hits-among .result) (s .pre .1 .1 .1 .1 .check .ranks)
-          (h .hits-among .ensures) (riseIn ps text) (a .out .now) (L .out) (a .rises .now) (L .rises) 0 (L .to) (restHits ps text 0) (there .1) _ _ _
-          (w .write-place .ensures .1 .0) (w .write-place .ensures .1 .1) (w .write-place .ensures .0),
+      place-written ps text (r .place) (length text) lt (riseIn ps text) (a .out .now) (L .out) (a .rises .now) (L .rises) 0 (L .to) (restHits ps text 0)
+          (there .1) _ _ _ (w .write-place .ensures .1 .0) (w .write-place .ensures .1 .1) (w .write-place .ensures .0),
     )
 
 pub search-places-spec : {M : Type 1} → statement M
@@ -198,7 +194,7 @@ search-places-spec =
     returns
     size-requires
     add-count
-    hits-among-requires
+    likely-among-requires
     write-place-requires
     add-p
     own-at-requires
