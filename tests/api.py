@@ -3,7 +3,7 @@
 
 usage: api.py
 
-Needs target/staticlib/libfinder_c.a (rt staticlib finder_c), a C compiler and cargo.
+Needs target/staticlib/libfinder_c.a (tools/build library), a C compiler and cargo.
 """
 import os
 import re

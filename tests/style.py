@@ -6,7 +6,7 @@ usage: tests/style.py
 - a line has at most 160 characters, a comment line at most 100;
 - no proof goes back by more than ten `.before` in a row: the place gets a name;
 - every imported name is used;
-- crates.txt lists for a crate only crates that its files name (`libc` apart, and NAMELESS);
+- crates.txt lists for a crate only crates that its files name (NAMELESS apart);
 - every path of this repository that a document names exists;
 - docs/PROMISES.md names every must-fail edit, and no other.
 
@@ -41,14 +41,14 @@ def words(lines, path):
         line = code(line, path)
         if "[]" in line:
             found.add("[]")
-        found.update(SPLIT.split(line))
+        found.update(word.strip("◌") or word for word in SPLIT.split(line))
     return found
 
 
 def is_used(name, found):
     name = name.split(" as ")[-1].strip()
-    parts = [p for p in name.split("_") if p]
-    return name in found or ("_" in name and bool(parts) and all(p in found for p in parts))
+    parts = [p for p in name.split("◌") if p]
+    return name in found or ("◌" in name and bool(parts) and all(p in found for p in parts))
 
 
 def check_lines(path, lines):
@@ -78,13 +78,13 @@ def check_crates():
     for line in (ROOT / "crates.txt").read_text().splitlines():
         if ":" in line and not line.startswith("#"):
             name, needs = line.split(":", 1)
-            listed[name.strip()] = needs.split()
+            listed[name.split()[0]] = needs.split()
     for name, needs in listed.items():
-        files = [p for p in (ROOT / "crates" / name).rglob("*") if p.suffix in (".rt", ".antt")]
+        files = [p for part in ("src", "specs", "proofs") for p in (ROOT / "crates" / name / part).rglob("*") if p.suffix in (".rt", ".antt")]
         text = "\n".join(code(line, p) for p in files for line in p.read_text().splitlines())
-        named = set(re.findall(r"Rattle·([a-z_0-9]+)", text)) | set(re.findall(r"\b([a-z_0-9]+)::", text))
+        named = set(re.findall(r"Rattle\.([a-z_0-9]+)", text)) | set(re.findall(r"\b([a-z_0-9]+)::", text))
         for need in needs:
-            if need not in named and need != "libc" and (name, need) not in NAMELESS:
+            if need not in named and (name, need) not in NAMELESS:
                 fault(ROOT / "crates.txt", 1, f"{name} lists {need} and names it nowhere")
 
 
@@ -92,7 +92,7 @@ def check_documents():
     roots = ("crates/", "docs/", "tests/", "tools/", "bench/", "samples/", "include/", "rust/", "examples/")
     for path in [ROOT / "README.md", *sorted((ROOT / "docs").rglob("*.md"))]:
         for i, line in enumerate(path.read_text().splitlines(), 1):
-            for name in re.findall(r"[A-Za-z_0-9./·-]+", line):
+            for name in re.findall(r"[A-Za-z_0-9./-]+", line):
                 name = name.rstrip(".")
                 if name.startswith(roots) and "NAME" not in name and "N.md" not in name and not list(ROOT.glob(name.rstrip("/"))):
                     fault(path, i, f"{name} is not there")
@@ -109,7 +109,8 @@ def check_edits():
 
 
 for file in sorted(ROOT.glob("crates/*/*/**/*")):
-    if file.suffix in (".rt", ".antt"):
+    # out/ is what rt keeps
+    if file.suffix in (".rt", ".antt") and file.relative_to(ROOT).parts[2] != "out":
         content = file.read_text().splitlines()
         check_lines(file, content)
         check_imports(file, content)

@@ -1,6 +1,7 @@
 -- THE NUMBER OF A REFUSAL: from it the refusal can be read back, and it is not 0. The one place of
 -- the laws that lists the refusals.
-use Rattle.lists.proofs.Prelude.{◌≡◌, ◌∙◌, ap, sym, refl, Option, none, some, some-injective, List, [], ◌∷◌, ℕ, zero, suc, ◌<◌, get_or, arith}
+use Rattle.std.specs.Prelude.{◌≡◌, ◌∷◌, ◌<◌}
+use Rattle.lists.proofs.Prelude.{◌∙◌, ap, sym, refl, Option, none, some, some-injective, List, [], ℕ, zero, suc, get_or, arith}
 use Rattle.answers.specs.declared.Refusal.{Refusal}
 use Rattle.answers.specs.Told.{number}
 

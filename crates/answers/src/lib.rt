@@ -1,10 +1,12 @@
 // What the finder's entries answer, why they refuse, and the state of a stream search. A caller
 // lists this crate and `finder`.
-ghost use Rattle.lists.specs.Prelude.{◌≡◌};
+#![tactic(auto)]
+
+ghost use Rattle.std.specs.Prelude.{◌≡◌};
 ghost use Rattle.answers.specs.Told.{number, new_search};
 
 // The reasons for a refusal; documents 01 and 02 number them 1 to 15 in this order.
-#[derive(Drop)]
+#[derive(Clone, Copy)]
 pub enum Refusal {
     Empty,
     TooLong,
@@ -24,7 +26,7 @@ pub enum Refusal {
 }
 
 // The number of words or values at the front of the lent array that hold the result.
-#[derive(Drop)]
+#[derive(Clone, Copy)]
 pub enum Written {
     Words(usize),
     Refused(Refusal),
@@ -32,7 +34,7 @@ pub enum Written {
 
 // The number of words at the front of the lent array that hold the next list of the catalogue.
 // Last: there is none, and nothing is written.
-#[derive(Drop)]
+#[derive(Clone, Copy)]
 pub enum NextList {
     Words(usize),
     Last,
@@ -40,21 +42,21 @@ pub enum NextList {
 }
 
 // The rank of a list of distances.
-#[derive(Drop)]
+#[derive(Clone, Copy)]
 pub enum Encoded {
     Code(u64),
     Refused(Refusal),
 }
 
 // The patterns and the distances that a set array holds.
-#[derive(Drop)]
+#[derive(Clone, Copy)]
 pub enum SetSize {
     Holds(usize, usize),
     Refused(Refusal),
 }
 
 // The nodes of the automaton and the words at the front of the lent array that hold it.
-#[derive(Drop)]
+#[derive(Clone, Copy)]
 pub enum Built {
     Nodes(usize, usize),
     Refused(Refusal),
@@ -63,14 +65,14 @@ pub enum Built {
 // The hits listed, and the candidates: the pairs of a pattern and a window within the text, without
 // a gap, whose last values, as many as the filter compares, have one fingerprint. Not every
 // candidate need be checked.
-#[derive(Drop)]
+#[derive(Clone, Copy)]
 pub enum Filtered {
     Found(usize, usize),
     Refused(Refusal),
 }
 
 // The values taken, the hits written and the attempts made by one call.
-#[derive(Drop)]
+#[derive(Clone, Copy)]
 pub struct Counts {
     pub taken: usize,
     pub hits: usize,
@@ -79,7 +81,7 @@ pub struct Counts {
 
 // Ended: no value is left. Full: values are left, and the rest of the hit array may be too short
 // for the hits of one more.
-#[derive(Drop)]
+#[derive(Clone, Copy)]
 pub enum StreamAnswer {
     Ended(Counts),
     Full(Counts),
@@ -87,7 +89,7 @@ pub enum StreamAnswer {
 }
 
 // The last place and the pattern number of a hit, and the values read up to and with that place.
-#[derive(Drop)]
+#[derive(Clone, Copy)]
 pub struct Hit {
     pub last: usize,
     pub pattern: usize,
@@ -95,7 +97,7 @@ pub struct Hit {
 }
 
 // The first hit of a text, or the values read, which are all, where there is none.
-#[derive(Drop)]
+#[derive(Clone, Copy)]
 pub enum FirstHit {
     Found(Hit),
     NoHit(usize),
@@ -107,7 +109,7 @@ pub enum FirstHit {
 // and the last 256 values taken, that of place p in slot p mod 256. Every byte belongs to a field,
 // and every bit pattern means some state.
 #[repr(C)]
-#[derive(Drop)]
+#[derive(Clone, Copy)]
 pub struct SearchState {
     pub taken: u32,
     pub node: u32,
@@ -119,7 +121,7 @@ pub struct SearchState {
 }
 
 // What a call of the stream search hands back.
-#[derive(Drop)]
+#[derive(Clone, Copy)]
 pub struct Streamed {
     pub state: SearchState,
     pub answer: StreamAnswer,

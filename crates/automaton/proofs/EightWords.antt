@@ -1,6 +1,7 @@
 -- EIGHT WORDS SIDE BY SIDE, those of a row or of a record, stored one after the other and compared
 -- one by one; and sixteen, those of a row and of a record.
-use Rattle.lists.proofs.Prelude.{◌≡◌, ◌∙◌, ap, sym, ap₂, true, false, ◌&&◌, List, [], ◌∷◌, ◌++◌, ℕ, suc, ◌+◌, ◌≤◌, ◌<◌, length, get_or, take, drop, set}
+use Rattle.std.specs.Prelude.{◌≡◌, ◌&&◌, ◌∷◌, ◌++◌, ◌+◌, ◌≤◌, ◌<◌}
+use Rattle.lists.proofs.Prelude.{◌∙◌, ap, sym, ap₂, true, false, List, [], ℕ, suc, length, get_or, take, drop, set}
 use Rattle.lists.proofs.Prelude.{length-drop}
 use Rattle.lists.proofs.Prelude.{length-append, length-take-le, get_or-take, get_or-drop, ext_get_or, take-add, take_at, drop-drop, drop-append-add, drop-cons}
 use Rattle.lists.proofs.Prelude.{set_at, append_assoc, append_snoc, arith, same}

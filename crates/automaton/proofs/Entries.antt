@@ -1,6 +1,7 @@
 -- THE ENTRIES, for each way through them: the refusals of the builder, what it tells and leaves,
 -- and the tests of the check.
-use Rattle.lists.proofs.Prelude.{◌≡◌, ◌∙◌, ap, sym, refl, ap₂, false, List, [], ◌∷◌, ◌++◌, flatten, ℕ, ◌+◌, ◌-◌, ◌*◌, ◌≤◌, ◌<◌, ltb, length, get_or}
+use Rattle.std.specs.Prelude.{◌≡◌, ◌∷◌, ◌++◌, ◌+◌, ◌-◌, ◌*◌, ◌≤◌, ◌<◌}
+use Rattle.lists.proofs.Prelude.{◌∙◌, ap, sym, refl, ap₂, false, List, [], flatten, ℕ, ltb, length, get_or}
 use Rattle.lists.proofs.Prelude.{take, drop, length-take, take-take, arith, lt-ltb, le-ltb, begins, same}
 use Rattle.lists.proofs.Parts.{get_or_front}
 use Rattle.lists.proofs.Same.{same-false, false-same}

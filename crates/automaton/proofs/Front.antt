@@ -1,6 +1,7 @@
 -- THE WORDS BEFORE THE RECORDS: the order, what neighbours share, and the number of nodes; written
 -- one behind the other, and tested.
-use Rattle.lists.proofs.Prelude.{◌≡◌, ◌∙◌, ap, sym, refl, ap₂, Bool, true, false, ◌&&◌, List, [], ◌∷◌, ◌++◌, append_assoc, ℕ, suc, ◌+◌, ◌*◌, ◌≤◌, ◌<◌, eqb}
+use Rattle.std.specs.Prelude.{◌≡◌, ◌&&◌, ◌∷◌, ◌++◌, ◌+◌, ◌*◌, ◌≤◌, ◌<◌}
+use Rattle.lists.proofs.Prelude.{◌∙◌, ap, sym, refl, ap₂, Bool, true, false, List, [], append_assoc, ℕ, suc, eqb}
 use Rattle.lists.proofs.Prelude.{length, get_or, take, drop, set, length-append, length-take, length-drop, length-take-le, drop-cons, take-suc, append_snoc}
 use Rattle.lists.proofs.Prelude.{take_at, drop-drop, set_at, drop_at, take-add, drop-append-add, arith, same}
 use Rattle.lists.proofs.Tables.{length-tabulate}

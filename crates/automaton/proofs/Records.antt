@@ -1,8 +1,10 @@
 -- THE NODES, ONE AFTER THE OTHER behind the front: an array that is grown by the words of one has
 -- one node more, and words that differ in one do not begin with the automaton.
-use Rattle.lists.proofs.Prelude.{◌≡◌, ◌∙◌, ap, sym, refl, ap₂, true, false, List, ◌++◌, ℕ, zero, suc, ◌+◌, ◌-◌, ◌*◌, ◌≤◌, ◌<◌, length, get_or, take, drop}
+use Rattle.std.specs.Prelude.{◌≡◌, ◌++◌, ◌+◌, ◌-◌, ◌*◌, ◌≤◌, ◌<◌}
+use Rattle.lists.proofs.Prelude.{◌∙◌, ap, sym, refl, ap₂, true, false, List, ℕ, zero, suc, length, get_or, take, drop}
 use Rattle.lists.proofs.Prelude.{length-append}
-use Rattle.lists.proofs.Prelude.{length-drop, take-append-drop, length-take-le, get_or-take, get_or-drop, take_at, drop-drop, ext_get_or, take-add, drop-append-add}
+use Rattle.lists.proofs.Prelude.{length-drop, take-append-drop, length-take-le, get_or-take, get_or-drop, take_at, drop-drop, ext_get_or, take-add}
+use Rattle.lists.proofs.Prelude.{drop-append-add}
 use Rattle.lists.proofs.Prelude.{take-take, take-length, dec_lt, arith, begins, same, get_or-append, get_or-append-add}
 use Rattle.lists.proofs.Tables.{get_or-tabulate}
 use Rattle.lists.proofs.Same.{same-true, same-false, false-same}

@@ -1,7 +1,8 @@
 -- THE ROOM that is asked for holds the automaton of a good set: all patterns begin with one
 -- distance, so that there is a node for each distance but the first ones, one for these, and the
 -- root.
-use Rattle.lists.proofs.Prelude.{List, flatten, ℕ, ◌+◌, ◌*◌, ◌≤◌, ◌<◌, length, arith}
+use Rattle.std.specs.Prelude.{◌+◌, ◌*◌, ◌≤◌, ◌<◌}
+use Rattle.lists.proofs.Prelude.{List, flatten, ℕ, length, arith}
 use Rattle.automaton_model.specs.Automaton.{automaton_words}
 use Rattle.automaton_model.proofs.Lengths.{length-nodes_few, length_automaton}
 use Rattle.pattern_set.specs.PatternSet.{patterns_of, IsSet}

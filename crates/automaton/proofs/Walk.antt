@@ -1,6 +1,7 @@
 -- A WALK OVER THE NODES: what it carries along from the root's child on, and what it says of the
 -- words where it stops.
-use Rattle.lists.proofs.Prelude.{◌≡◌, ◌∙◌, ap, sym, List, ◌++◌, ℕ, ◌+◌, ◌-◌, ◌*◌, ◌<◌, eqb, length, begins, eq-eqb, ne_eqb, dec_lt, arith}
+use Rattle.std.specs.Prelude.{◌≡◌, ◌++◌, ◌+◌, ◌-◌, ◌*◌, ◌<◌}
+use Rattle.lists.proofs.Prelude.{◌∙◌, ap, sym, List, ℕ, eqb, length, begins, eq-eqb, ne_eqb, dec_lt, arith}
 use Rattle.pattern_set.specs.PatternSet.{patterns_of}
 use Rattle.automaton_model.specs.Automaton.{nodes, first_child, automaton_words}
 use Rattle.automaton_model.proofs.Nodes.{node_root}

@@ -1,5 +1,6 @@
 -- A walk over the nodes, by number, each of whose words are made from those before them.
-use Rattle.lists.specs.Prelude.{◌≡◌, false, List, ◌++◌, ℕ, ◌+◌, ◌-◌, ◌*◌, ◌≤◌, ◌<◌, take, drop, same}
+use Rattle.std.specs.Prelude.{◌≡◌, ◌++◌, ◌+◌, ◌-◌, ◌*◌, ◌≤◌, ◌<◌}
+use Rattle.lists.specs.Prelude.{false, List, ℕ, take, drop, same}
 use Rattle.pattern_set.specs.PatternSet.{patterns_of}
 use Rattle.automaton_model.specs.Automaton.{first_child, record_of, row_of}
 use Rattle.automaton_lookup.specs.Made.{Made}

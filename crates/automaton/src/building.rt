@@ -1,6 +1,7 @@
 // Writing the words of an automaton into an array that has room for them. k is the number of
 // patterns and count that of the nodes.
-ghost use Rattle.lists.specs.Prelude.{◌≡◌, ◌++◌, ◌+◌, ◌*◌, ◌≤◌, ◌<◌, length, take, drop};
+ghost use Rattle.std.specs.Prelude.{◌≡◌, ◌++◌, ◌+◌, ◌*◌, ◌≤◌, ◌<◌};
+ghost use Rattle.lists.specs.Prelude.{length, take, drop};
 ghost use Rattle.automaton_model.specs.Automaton.{nodes, automaton_words};
 ghost use Rattle.pattern_set.specs.PatternSet.{patterns_of, IsSet};
 ghost use Rattle.automaton_lookup.specs.Made.{Made};

@@ -1,6 +1,7 @@
 // Comparing words, whatever they are, with those of an automaton. k is the number of patterns and
 // count that of the nodes.
-ghost use Rattle.lists.specs.Prelude.{◌≡◌, ◌++◌, ◌+◌, ◌*◌, ◌≤◌, ◌<◌, length, take, drop, same, begins};
+ghost use Rattle.std.specs.Prelude.{◌≡◌, ◌++◌, ◌+◌, ◌*◌, ◌≤◌, ◌<◌};
+ghost use Rattle.lists.specs.Prelude.{length, take, drop, same, begins};
 ghost use Rattle.automaton_model.specs.Automaton.{nodes, automaton_words};
 ghost use Rattle.pattern_set.specs.PatternSet.{patterns_of, IsSet};
 ghost use Rattle.automaton_lookup.specs.Made.{Made};
@@ -74,7 +75,7 @@ fn is_node(words: &[u32], at: usize, row: &[u32; 8], r: Record) -> bool
 // What a walk over the nodes stops at: the first node whose words are not there, its parent, the
 // place behind the last pattern that begins with its head, and its row and record. Where the words
 // of all nodes are there, the number of nodes.
-#[derive(Drop)]
+#[derive(Clone, Copy)]
 pub(crate) struct Wrong {
     pub(crate) node: usize,
     pub(crate) parent: usize,

@@ -1,6 +1,9 @@
 // The automaton of a set: the entry that builds it, and the check that an array begins with its
 // words.
-ghost use Rattle.lists.specs.Prelude.{◌≡◌, ◌<◌, length, begins};
+#![tactic(auto)]
+
+ghost use Rattle.std.specs.Prelude.{◌≡◌, ◌<◌};
+ghost use Rattle.lists.specs.Prelude.{length, begins};
 ghost use Rattle.answers.specs.declared.SetSize.{SetSize};
 ghost use Rattle.answers.specs.Told.{told_built};
 ghost use Rattle.automaton_model.specs.Automaton.{automaton_words};

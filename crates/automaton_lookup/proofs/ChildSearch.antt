@@ -1,7 +1,8 @@
 -- FINDING A CHILD BY HALVES: the labels of the children rise, so the child of label v lies behind a
 -- child of a label at most v or is it, and before a child of a greater label; an interval of one
 -- child holds it or there is none.
-use Rattle.lists.proofs.Prelude.{◌≡◌, ◌∙◌, ap, sym, refl, subst, Bool, true, false, cond, List, [], ◌∷◌, ◌++◌, ℕ, ◌+◌, ◌-◌, ◌≤◌, ◌<◌, T, length, get_or}
+use Rattle.std.specs.Prelude.{◌≡◌, ◌∷◌, ◌++◌, ◌+◌, ◌-◌, ◌≤◌, ◌<◌}
+use Rattle.lists.proofs.Prelude.{◌∙◌, ap, sym, refl, subst, Bool, true, false, cond, List, [], ℕ, T, length, get_or}
 use Rattle.lists.proofs.Prelude.{get_or-append_seam, dec_lt, arith}
 use Rattle.lists.proofs.Parts.{length_snoc}
 use Rattle.pattern_set.specs.PatternSet.{PatternSet, good_set}

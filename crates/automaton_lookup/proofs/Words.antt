@@ -2,7 +2,8 @@
 -- number of nodes at 2 k, word f of the record of node n at 2 k + 1 + 16 n + f, and before it,
 -- where n is not the root, entry x of its row at 2 k + 16 n + x - 7, for a set of k patterns. An
 -- array with the first records has these words up to them.
-use Rattle.lists.proofs.Prelude.{◌≡◌, ◌∙◌, ap, refl, List, ◌∷◌, ◌++◌, flatten, ℕ, suc, ◌+◌, ◌-◌, ◌*◌, ◌≤◌, ◌<◌, T, length, get_or, length-append}
+use Rattle.std.specs.Prelude.{◌≡◌, ◌∷◌, ◌++◌, ◌+◌, ◌-◌, ◌*◌, ◌≤◌, ◌<◌}
+use Rattle.lists.proofs.Prelude.{◌∙◌, ap, refl, List, flatten, ℕ, suc, T, length, get_or, length-append}
 use Rattle.lists.proofs.Prelude.{get_or-append}
 use Rattle.lists.proofs.Prelude.{drop, get_or-drop, get_or_at, get_or-append-add, arith, tabulate}
 use Rattle.lists.proofs.Tables.{length-tabulate, get_or-tabulate}

@@ -1,6 +1,7 @@
 -- An array with the first records of an automaton, and the child of a label.
-use Rattle.lists.specs.Prelude.{◌≡◌, cond, List, [], ◌∷◌, ◌++◌, ℕ, ◌+◌, ◌-◌, ◌*◌, ◌≤◌, ◌<◌, length, take}
-use Rattle.pattern_set.specs.PatternSet.{PatternSet, patterns_of, is_set, IsSet}
+use Rattle.std.specs.Prelude.{◌≡◌, ◌∷◌, ◌++◌, ◌+◌, ◌-◌, ◌*◌, ◌≤◌, ◌<◌}
+use Rattle.lists.specs.Prelude.{cond, List, [], ℕ, length, take}
+use Rattle.pattern_set.specs.PatternSet.{PatternSet, patterns_of, IsSet}
 use Rattle.matching.specs.Matching.{is_head}
 use Rattle.automaton_model.specs.Automaton.{nodes, head_of, node_of, automaton_words}
 

@@ -1,5 +1,6 @@
 -- The places of the order whose patterns begin with a head.
-use Rattle.lists.specs.Prelude.{List, ℕ, ◌+◌, ◌≤◌, ◌<◌, length, select, begins, before}
+use Rattle.std.specs.Prelude.{◌+◌, ◌≤◌, ◌<◌}
+use Rattle.lists.specs.Prelude.{List, ℕ, length, select, begins, before}
 use Rattle.pattern_set.specs.PatternSet.{PatternSet}
 use Rattle.automaton_model.specs.Automaton.{head_of, children, first_child}
 

@@ -1,7 +1,10 @@
 // Reading the words of an automaton, and finding a child of a node by its label. The records may be
 // made up to some node only: `made` of them are there. The words of the set lie in `set`, which is
 // only there for the contracts, and k is the number of its patterns.
-ghost use Rattle.lists.specs.Prelude.{◌≡◌, ◌+◌, ◌-◌, ◌≤◌, ◌<◌, length, get_or};
+#![tactic(auto)]
+
+ghost use Rattle.std.specs.Prelude.{◌≡◌, ◌+◌, ◌-◌, ◌≤◌, ◌<◌};
+ghost use Rattle.lists.specs.Prelude.{length, get_or};
 ghost use Rattle.pattern_set.specs.PatternSet.{patterns_of};
 ghost use Rattle.matching.specs.Matching.{failure, chain};
 ghost use Rattle.automaton_model.specs.Automaton.{nodes, head_of, node_of, order, shared_at, ends_at, first_end, children, first_child, record_of, entry_of};

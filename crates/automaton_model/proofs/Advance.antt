@@ -2,7 +2,8 @@
 -- failure of the head, with one attempt more; the root's child is always there, since every pattern
 -- begins with distance 0. It leads to a head of at most one distance more, and each failure link
 -- shortens the head, so the attempts are at most one more than the head has distances.
-use Rattle.lists.proofs.Prelude.{◌≡◌, ◌∙◌, ap, sym, refl, subst, Bool, true, false, cond, List, [], ◌∷◌, ℕ, zero, suc, ◌+◌, ◌≤◌, ◌<◌, T, leb, length, le_refl}
+use Rattle.std.specs.Prelude.{◌≡◌, ◌∷◌, ◌+◌, ◌≤◌, ◌<◌}
+use Rattle.lists.proofs.Prelude.{◌∙◌, ap, sym, refl, subst, Bool, true, false, cond, List, [], ℕ, zero, suc, T, leb, length, le_refl}
 use Rattle.lists.proofs.Prelude.{arith, leb-true}
 use Rattle.lists.proofs.Tests.{T-true, true-T}
 use Rattle.lists.proofs.Parts.{length_snoc}

@@ -1,7 +1,8 @@
 -- The root's child, and THE CHAIN OF A HEAD, with its first head where a pattern ends: as many
 -- failure links as the head has distances are enough.
 
-use Rattle.lists.proofs.Prelude.{◌≡◌, ◌∙◌, ap, refl, subst, Bool, true, false, cond, List, [], ◌∷◌, Memᴰ, Memᴰ-head, ℕ, zero, suc, ◌≤◌, ◌<◌, T, eqb}
+use Rattle.std.specs.Prelude.{◌≡◌, ◌∷◌, ◌≤◌, ◌<◌}
+use Rattle.lists.proofs.Prelude.{◌∙◌, ap, refl, subst, Bool, true, false, cond, List, [], Memᴰ, Memᴰ-head, ℕ, zero, suc, T, eqb}
 use Rattle.lists.proofs.Prelude.{eqb→eq, eqb-suc-zero, length, take, le_refl, arith, begins, any}
 use Rattle.lists.proofs.Tests.{T-true}
 use Rattle.lists.proofs.Members.{mem-any}
@@ -97,7 +98,8 @@ output_is_head ps g z h t = within (length h) h t
         go false c ih = t
 
 -- so the output link of a node leads to a node, whose head it is
-pub output_head : (ps : PatternSet) → T (good_set ps) → 0 < length ps → (n o : ℕ) → n < length (nodes ps) → o ≡ node_of ps (first_end ps (chain ps (head_of ps n)))
+pub output_head : (ps : PatternSet) → T (good_set ps) → 0 < length ps → (n o : ℕ) → n < length (nodes ps) → o
+    ≡ node_of ps (first_end ps (chain ps (head_of ps n)))
     → (o < length (nodes ps)) × (head_of ps o ≡ first_end ps (chain ps (head_of ps n)))
 output_head ps g z n o h e =
     let p = head_node ps g (first_end ps (chain ps (head_of ps n))) (output_is_head ps g z (head_of ps n) (node_head ps n h).0) in

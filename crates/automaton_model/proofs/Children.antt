@@ -1,8 +1,10 @@
 -- THE CHILDREN OF A NODE lie side by side, from its first child on, with rising labels: the numbers
 -- go breadth-first and rise on one level, so a later node has no earlier parent, and the children
 -- of the nodes below n are the nodes after the root and before the first child of n.
-use Rattle.lists.proofs.Prelude.{◌≡◌, ◌∙◌, ap, sym, subst, inl, inr, ◌⊎◌, Bool, ◌&&◌, List, [], ◌∷◌, ◌++◌, ℕ, zero, suc, pred, ◌+◌, ◌-◌, ◌≤◌, ◌<◌, T, eqb}
-use Rattle.lists.proofs.Prelude.{eqb→eq, length, get_or, take, length-append, length-take-le, take-suc, take_all, take-append_seam, le_refl, dec_lt, arith, eq-eqb}
+use Rattle.std.specs.Prelude.{◌≡◌, ◌⊎◌, ◌&&◌, ◌∷◌, ◌++◌, ◌+◌, ◌-◌, ◌≤◌, ◌<◌}
+use Rattle.lists.proofs.Prelude.{◌∙◌, ap, sym, subst, inl, inr, Bool, List, [], ℕ, zero, suc, pred, T, eqb}
+use Rattle.lists.proofs.Prelude.{eqb→eq, length, get_or, take, length-append, length-take-le, take-suc, take_all, take-append_seam, le_refl, dec_lt}
+use Rattle.lists.proofs.Prelude.{arith, eq-eqb}
 use Rattle.lists.proofs.Prelude.{sub-one, select, same, refl, before}
 use Rattle.lists.proofs.Tests.{T-true, and_split, and_join}
 use Rattle.lists.proofs.Same.{same_eq, eq_same}
@@ -108,14 +110,16 @@ module _ (ps : PatternSet) (g : T (good_set ps)) (z : 0 < length ps) where
   parent_node_rises : (c e : ℕ) → 0 < c → c < e → e < length (nodes ps) → parent_node ps c ≤ parent_node ps e
   parent_node_rises c e h k l = go (parents-Earlier (head_of ps c) (head_of ps e) (node_longer ps g z c h (omega arith)) (nodes_rise ps c e k l))
     where
-      go : Earlier (parent_of (head_of ps c)) (parent_of (head_of ps e)) ⊎ (parent_of (head_of ps c) ≡ parent_of (head_of ps e)) → parent_node ps c ≤ parent_node ps e
+      go : Earlier (parent_of (head_of ps c)) (parent_of (head_of ps e)) ⊎ (parent_of (head_of ps c) ≡ parent_of (head_of ps e))
+          → parent_node ps c ≤ parent_node ps e
       go (inl r) =
           let q = Earlier-node ps g (parent_of (head_of ps c)) (parent_of (head_of ps e)) (parent_is_head c (omega arith)) (parent_is_head e l) r in
           omega arith
       go (inr q) = let s : parent_node ps c ≡ parent_node ps e = ap (node_of ps) q in omega arith
 
   -- a node is a child of the node with its parent's number, and of no other
-  pub child_node_parent : (n c : ℕ) → n < length (nodes ps) → c < length (nodes ps) → T (is_child (head_of ps n) (head_of ps c)) → (0 < c) × (parent_node ps c ≡ n)
+  pub child_node_parent : (n c : ℕ) → n < length (nodes ps) → c < length (nodes ps) → T (is_child (head_of ps n) (head_of ps c)) → (0 < c)
+      × (parent_node ps c ≡ n)
   child_node_parent n c h k t =
       let p = child_parent (head_of ps n) (head_of ps c) t in
       (positive c p.0, ap (node_of ps) p.1 ∙ (node_head ps n h).1)
@@ -126,7 +130,8 @@ module _ (ps : PatternSet) (g : T (good_set ps)) (z : 0 < length ps) where
 
   pub parent_node_child : (c : ℕ) → 0 < c → c < length (nodes ps) → T (is_child (head_of ps (parent_node ps c)) (head_of ps c))
   parent_node_child c h k =
-      parent_child (head_of ps (parent_node ps c)) (head_of ps c) (node_longer ps g z c h k) (sym (head_node ps g (parent_of (head_of ps c)) (parent_is_head c k)).1)
+      parent_child (head_of ps (parent_node ps c)) (head_of ps c) (node_longer ps g z c h k)
+      (sym (head_node ps g (parent_of (head_of ps c)) (parent_is_head c k)).1)
 
   -- ---- first children
 
@@ -257,7 +262,8 @@ module _ (ps : PatternSet) (g : T (good_set ps)) (z : 0 < length ps) where
 
   -- the nodes are all the children and the root
   pub first_child_last : first_child ps (length (nodes ps)) ≡ length (nodes ps)
-  first_child_last = let r = numbered (length (nodes ps)) (le_refl (length (nodes ps))) in go r (dec_lt (first_child ps (length (nodes ps))) (length (nodes ps)))
+  first_child_last = let r = numbered (length (nodes ps)) (le_refl (length (nodes ps))) in go r
+      (dec_lt (first_child ps (length (nodes ps))) (length (nodes ps)))
     where
       go : Numbered (length (nodes ps)) → Dec (first_child ps (length (nodes ps)) < length (nodes ps)) → first_child ps (length (nodes ps)) ≡ length (nodes ps)
       go r (yes d) =

@@ -1,8 +1,9 @@
 -- How long the words of an automaton are: a level has at most one head for each pattern of at least
 -- its length, and the empty head is one.
-use Rattle.lists.proofs.Prelude.{◌≡◌, ◌∙◌, sym, refl, subst, Bool, true, false, cond, List, [], ◌∷◌, ◌++◌, map, foldr, Memᴰ, Memᴰ-head}
+use Rattle.std.specs.Prelude.{◌≡◌, ◌∷◌, ◌++◌, ◌+◌, ◌-◌, ◌*◌, ◌≤◌}
+use Rattle.lists.proofs.Prelude.{◌∙◌, sym, refl, subst, Bool, true, false, cond, List, [], map, foldr, Memᴰ, Memᴰ-head}
 use Rattle.lists.proofs.Prelude.{Memᴰ-tail}
-use Rattle.lists.proofs.Prelude.{flatten, ℕ, zero, suc, ◌+◌, ◌-◌, ◌*◌, ◌≤◌, T, leb, length, take, length-append, length-take, length-map, arith, leb-true}
+use Rattle.lists.proofs.Prelude.{flatten, ℕ, zero, suc, T, leb, length, take, length-append, length-take, length-map, arith, leb-true}
 use Rattle.lists.proofs.Prelude.{leb-false}
 use Rattle.lists.proofs.Prelude.{drop, length-drop, take_all, tabulate, select, before}
 use Rattle.lists.proofs.Tables.{length-tabulate}

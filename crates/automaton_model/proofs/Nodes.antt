@@ -1,9 +1,11 @@
 -- THE NODES ARE THE HEADS: every head of a pattern is at one place of the list of nodes, and its
 -- number is that place; the numbers go breadth-first, and on one level in the lexicographic order,
 -- since a level is built by putting each head into its place.
-use Rattle.lists.proofs.Prelude.{◌≡◌, ◌∙◌, ap, sym, refl, subst, inl, inr, ◌⊎◌, ◌↔◌, Bool, true, false, cond, List, [], ◌∷◌, map, foldr, Memᴰ}
-use Rattle.lists.proofs.Prelude.{Memᴰ-head, Memᴰ-tail, Memᴰ-not-nil, Memᴰ-cases_cons, flatten, ℕ, zero, suc, pred, ◌-◌, ◌≤◌, ◌<◌, ℤ, T, leb}
-use Rattle.lists.proofs.Prelude.{leb→le, le→leb, length, get_or, take, length-take, length-drop, drop_of_length-le, length-take-le, dec_lt, arith, last_of, begins}
+use Rattle.std.specs.Prelude.{◌≡◌, ◌⊎◌, ◌↔◌, ◌∷◌, ◌-◌, ◌≤◌, ◌<◌}
+use Rattle.lists.proofs.Prelude.{◌∙◌, ap, sym, refl, subst, inl, inr, Bool, true, false, cond, List, [], map, foldr, Memᴰ}
+use Rattle.lists.proofs.Prelude.{Memᴰ-head, Memᴰ-tail, Memᴰ-not-nil, Memᴰ-cases_cons, flatten, ℕ, zero, suc, pred, ℤ, T, leb}
+use Rattle.lists.proofs.Prelude.{leb→le, le→leb, length, get_or, take, length-take, length-drop, drop_of_length-le, length-take-le, dec_lt, arith}
+use Rattle.lists.proofs.Prelude.{last_of, begins}
 use Rattle.lists.proofs.Prelude.{tabulate, last_below, any, select, same, before}
 use Rattle.lists.proofs.Members.{get_or-mem, any-mem, mem-any, all-mem, mem-map}
 use Rattle.lists.proofs.Select.{mem-select}
@@ -324,7 +326,8 @@ failure_shorter ps h z =
     go l m n h z = omega arith
 
 -- so the failure link of a node leads to a smaller number
-pub failure_smaller : (ps : PatternSet) → T (good_set ps) → (n : ℕ) → n < length (nodes ps) → 0 < length (head_of ps n) → node_of ps (failure ps (head_of ps n)) < n
+pub failure_smaller : (ps : PatternSet) → T (good_set ps) → (n : ℕ) → n < length (nodes ps) → 0 < length (head_of ps n)
+    → node_of ps (failure ps (head_of ps n)) < n
 failure_smaller ps g n h z =
     let p = node_head ps n h in
     let l = failure_shorter ps (head_of ps n) z in

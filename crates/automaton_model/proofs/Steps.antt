@@ -2,8 +2,9 @@
 -- good as 0. Where the child is there the entry is the child and one attempt; where it is missing
 -- it is the entry of the failure link and one attempt more; from the root every step leads to node
 -- 1.
-use Rattle.lists.proofs.Prelude.{◌≡◌, ◌∙◌, ap, sym, refl, subst, inl, inr, ◌⊎◌, Bool, true, false, List, [], ◌∷◌, ◌++◌, ℕ, zero, suc, ◌+◌, ◌*◌, ◌/◌, ◌%◌}
-use Rattle.lists.proofs.Prelude.{◌≤◌, ◌<◌, T, length, take_all, le_refl, dec_lt, arith, le-leb, lt-leb, before}
+use Rattle.std.specs.Prelude.{◌≡◌, ◌⊎◌, ◌∷◌, ◌++◌, ◌+◌, ◌*◌, ◌/◌, ◌%◌, ◌≤◌, ◌<◌}
+use Rattle.lists.proofs.Prelude.{◌∙◌, ap, sym, refl, subst, inl, inr, Bool, true, false, List, [], ℕ, zero, suc}
+use Rattle.lists.proofs.Prelude.{T, length, take_all, le_refl, dec_lt, arith, le-leb, lt-leb, before}
 use Rattle.lists.proofs.Before.{before_irrefl}
 use Rattle.cartesian.specs.Cartesian.{cut}
 use Rattle.pattern_set.specs.PatternSet.{PatternSet, good_set}
@@ -71,8 +72,10 @@ module _ (ps : PatternSet) (g : T (good_set ps)) (z : 0 < length ps) where
   attempts n d = (advance ps (head_of ps n) d).1
 
   pub reached_node : (n d : ℕ) → (reached n d < length (nodes ps)) × (length (nodes ps) ≤ 4097)
-  reached_node n d =
-      ((head_node ps g (advance ps (head_of ps n) d).0 (advance-Bounded ps g z d (head_of ps n)).head).0, omega (arith, length-nodes ps, (good_set_parts ps g).1))
+  reached_node n d = (
+    (head_node ps g (advance ps (head_of ps n) d).0 (advance-Bounded ps g z d (head_of ps n)).head).0,
+    omega (arith, length-nodes ps, (good_set_parts ps g).1),
+  )
 
   pub entry_parts : (n d : ℕ) → (entry_of ps n d % 65536 ≡ reached n d) × (entry_of ps n d / 65536 ≡ attempts n d)
   unfolding entry_of

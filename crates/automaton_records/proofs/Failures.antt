@@ -1,7 +1,8 @@
 -- THE FAILURE LINK OF A CHILD is what one step of the automaton reaches from the failure link of
 -- its parent, with the child's label: a tail of the child's head is a tail of the parent's head
 -- with the label behind it, cut to its depth.
-use Rattle.lists.proofs.Prelude.{◌≡◌, ◌∙◌, ap, sym, refl, subst, Bool, true, false, List, [], ◌∷◌, ◌++◌, ℕ, zero, suc, pred, ◌≤◌, ◌<◌, T, length}
+use Rattle.std.specs.Prelude.{◌≡◌, ◌∷◌, ◌++◌, ◌≤◌, ◌<◌}
+use Rattle.lists.proofs.Prelude.{◌∙◌, ap, sym, refl, subst, Bool, true, false, List, [], ℕ, zero, suc, pred, T, length}
 use Rattle.lists.proofs.Prelude.{take-append_seam, le_refl, dec_lt, arith, last_of, last_below}
 use Rattle.lists.proofs.Tests.{T-true, true-T}
 use Rattle.lists.proofs.LastBelow.{last_below_ext, last_below-le, last_below_passes, last_below_none}

@@ -1,6 +1,7 @@
 -- The links of a node by those of smaller numbers, as the code finds them: the child's failure link
 -- by a step from that of its parent, and the output link by the failure link's.
-use Rattle.lists.proofs.Prelude.{◌≡◌, ◌∙◌, ap, sym, List, [], ◌∷◌, ◌++◌, ℕ, ◌<◌, T, length, arith}
+use Rattle.std.specs.Prelude.{◌≡◌, ◌∷◌, ◌++◌, ◌<◌}
+use Rattle.lists.proofs.Prelude.{◌∙◌, ap, sym, List, [], ℕ, T, length, arith}
 use Rattle.pattern_set.specs.PatternSet.{PatternSet, good_set}
 use Rattle.matching.specs.Matching.{is_head, failure, chain}
 use Rattle.automaton_model.specs.Automaton.{nodes, head_of, node_of, ends_at, first_end, advance}

@@ -1,12 +1,14 @@
 -- THE PARENT OF A NODE: the first child's numbers rise, so the parent is the node whose children's
 -- numbers reach up to the node's own and no less far.
-use Rattle.lists.proofs.Prelude.{◌≡◌, ◌∙◌, ap, sym, subst, List, [], ◌∷◌, ◌++◌, ℕ, suc, ◌+◌, ◌-◌, ◌≤◌, ◌<◌, T, length, get_or, dec_lt, arith}
+use Rattle.std.specs.Prelude.{◌≡◌, ◌∷◌, ◌++◌, ◌+◌, ◌-◌, ◌≤◌, ◌<◌}
+use Rattle.lists.proofs.Prelude.{◌∙◌, ap, sym, subst, List, [], ℕ, suc, T, length, get_or, dec_lt, arith}
 use Rattle.lists.proofs.Parts.{length_snoc}
 use Rattle.pattern_set.specs.PatternSet.{PatternSet, good_set}
 use Rattle.matching.specs.Matching.{is_head}
 use Rattle.automaton_model.specs.Automaton.{nodes, head_of, node_of, children, first_child, ends_at}
 use Rattle.automaton_model.proofs.Nodes.{node_head}
-use Rattle.automaton_model.proofs.Children.{child_is, child_head_lem, parent_node, parent_node-lt, parent_node_child, child_number, child_larger, first_child_rises}
+use Rattle.automaton_model.proofs.Children.{child_is, child_head_lem, parent_node, parent_node-lt, parent_node_child, child_number, child_larger}
+use Rattle.automaton_model.proofs.Children.{first_child_rises}
 use Rattle.automaton_model.proofs.Children.{first_child_within}
 use Rattle.automaton_lookup.specs.Places.{place_of, end_of, ChildNode}
 use Rattle.automaton_rows.proofs.Intervals.{first_child_place, next_child_place}

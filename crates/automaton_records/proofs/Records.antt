@@ -1,5 +1,6 @@
 -- The record of a node by the numbers that the code finds.
-use Rattle.lists.proofs.Prelude.{◌≡◌, [], ◌∷◌, ℕ, ◌-◌, length, get_or}
+use Rattle.std.specs.Prelude.{◌≡◌, ◌∷◌, ◌-◌}
+use Rattle.lists.proofs.Prelude.{[], ℕ, length, get_or}
 use Rattle.pattern_set.specs.PatternSet.{PatternSet}
 use Rattle.matching.specs.Matching.{failure, chain}
 use Rattle.automaton_model.specs.Automaton.{head_of, node_of, ends_at, first_end, children, first_child, record_of}

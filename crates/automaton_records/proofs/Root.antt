@@ -1,6 +1,7 @@
 -- THE RECORD OF THE ROOT is the same for every set that has a pattern: each begins with 0 and none
 -- is empty.
-use Rattle.lists.proofs.Prelude.{◌≡◌, ap, sym, refl, subst, List, [], ◌∷◌, ◌++◌, ℕ, suc, ◌-◌, ◌<◌, T, length, drop_of_length-le, dec_lt, arith, tabulate}
+use Rattle.std.specs.Prelude.{◌≡◌, ◌∷◌, ◌++◌, ◌-◌, ◌<◌}
+use Rattle.lists.proofs.Prelude.{ap, sym, refl, subst, List, [], ℕ, suc, T, length, drop_of_length-le, dec_lt, arith, tabulate}
 use Rattle.lists.proofs.Prelude.{last_below, same, before}
 use Rattle.lists.proofs.Same.{same_eq}
 use Rattle.lists.proofs.Select.{select_empty}

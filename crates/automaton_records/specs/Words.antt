@@ -1,5 +1,6 @@
 -- The words of a record, in their order.
-use Rattle.lists.specs.Prelude.{List, [], ◌∷◌, ℕ}
+use Rattle.std.specs.Prelude.{◌∷◌}
+use Rattle.lists.specs.Prelude.{List, [], ℕ}
 use Rattle.automaton_records.specs.declared.Record.{Record}
 
 abbrev pub record_words : Record → List ℕ

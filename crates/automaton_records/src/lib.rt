@@ -2,7 +2,10 @@
 // before it, and finding the node's parent and first place. The nodes are made by number, so `made`
 // records are there: for the record of node n those of the nodes before it. k is the number of
 // patterns.
-ghost use Rattle.lists.specs.Prelude.{◌≡◌, [], ◌∷◌, ◌++◌, ◌+◌, ◌-◌, ◌≤◌, ◌<◌, T, length, get_or};
+#![tactic(auto)]
+
+ghost use Rattle.std.specs.Prelude.{◌≡◌, ◌∷◌, ◌++◌, ◌+◌, ◌-◌, ◌≤◌, ◌<◌};
+ghost use Rattle.lists.specs.Prelude.{[], T, length, get_or};
 ghost use Rattle.matching.specs.Matching.{is_head, failure, chain};
 ghost use Rattle.automaton_model.specs.Automaton.{nodes, head_of, node_of, ends_at, first_end, children, first_child, record_of, row_of};
 ghost use Rattle.pattern_set.specs.PatternSet.{patterns_of, IsSet};
@@ -11,7 +14,7 @@ ghost use Rattle.automaton_lookup.specs.Places.{place_of, end_of, ChildNode};
 ghost use Rattle.automaton_records.specs.Words.{record_words};
 
 // The eight words of a node; docs/AUTOMATON.md says what each is.
-#[derive(Drop)]
+#[derive(Clone, Copy)]
 pub struct Record {
     pub depth: u32,
     pub label: u32,
@@ -24,7 +27,7 @@ pub struct Record {
 }
 
 // The record of a node, and the place behind the last pattern that begins with its head.
-#[derive(Drop)]
+#[derive(Clone, Copy)]
 pub struct MadeRecord {
     pub record: Record,
     pub end: usize,

@@ -2,7 +2,8 @@
 -- those of its children, side by side and in their order. So the first child begins behind the
 -- patterns that end at the node, each other one where the one before it ends, and the children are
 -- as many as places among them that share no more than the head with the place before.
-use Rattle.lists.proofs.Prelude.{◌≡◌, ◌∙◌, ap, sym, subst, inl, inr, ◌⊎◌, List, [], ◌∷◌, ◌++◌, ℕ, suc, ◌+◌, ◌-◌, ◌≤◌, ◌<◌, T, length, get_or, take, length-append}
+use Rattle.std.specs.Prelude.{◌≡◌, ◌⊎◌, ◌∷◌, ◌++◌, ◌+◌, ◌-◌, ◌≤◌, ◌<◌}
+use Rattle.lists.proofs.Prelude.{◌∙◌, ap, sym, subst, inl, inr, List, [], ℕ, suc, T, length, get_or, take, length-append}
 use Rattle.lists.proofs.Prelude.{get_or-take, take-suc, take_all, take-append_seam, take-take, dec_lt, arith, begins, before}
 use Rattle.lists.proofs.Members.{get_or-mem, mem-any}
 use Rattle.lists.proofs.Same.{same_eq, eq_same}
@@ -60,7 +61,8 @@ module _ (ps : PatternSet) (g : T (good_set ps)) (z : 0 < length ps) (n : ℕ) (
       let m : i < length ps = omega (arith, begins_within ps u) in
       let e = same_eq (take (length u) p) u (begins_at_place ps u i (omega arith) k) in
       let d = longer i m l e (dec_lt (length u) (length p)) in
-      let q : take (suc (length u)) p ≡ u ++ (get_or p (length u) 0 ∷ []) = take-suc p (length u) 0 d ∙ ap (λ (s : List ℕ). s ++ (get_or p (length u) 0 ∷ [])) e in
+      let q : take (suc (length u)) p ≡ u ++ (get_or p (length u) 0 ∷ []) = take-suc p (length u) 0 d
+      ∙ ap (λ (s : List ℕ). s ++ (get_or p (length u) 0 ∷ [])) e in
       let v = u ++ (get_or p (length u) 0 ∷ []) in
       let n1 : length v ≡ suc (length u) = length-append u (get_or p (length u) 0 ∷ []) ∙ (omega arith) in
       let b : T (begins p v) = eq_same (take (length v) p) v (ap (λ (j : ℕ). take j p) n1 ∙ q) in
@@ -79,7 +81,8 @@ module _ (ps : PatternSet) (g : T (good_set ps)) (z : 0 < length ps) (n : ℕ) (
   child_length c l k =
       ap length (child_head_lem ps g z n h c l k).1 ∙ length-append (head_of ps n) (get_or (head_of ps c) (length (head_of ps n)) 0 ∷ []) ∙ (omega arith)
 
-  child_begins : (c : ℕ) → first_child ps n ≤ c → c < first_child ps n + children ps n → (p : List ℕ) → T (begins p (head_of ps c)) → T (begins p (head_of ps n))
+  child_begins : (c : ℕ) → first_child ps n ≤ c → c < first_child ps n + children ps n → (p : List ℕ) → T (begins p (head_of ps c))
+      → T (begins p (head_of ps n))
   child_begins c l k p t =
       let u = head_of ps n in
       let e = same_eq (take (length (head_of ps c)) p) (head_of ps c) t in
@@ -106,7 +109,8 @@ module _ (ps : PatternSet) (g : T (good_set ps)) (z : 0 < length ps) (n : ℕ) (
       let y = place_of_begins ps (head_of ps n) e (omega arith) (child_begins c l k (pattern_at ps e) a) in
       (from (dec_lt q (place_of ps n + ends_at ps (head_of ps n))) b r.0, omega (arith, y.1))
     where
-      from : Dec (place_of ps c < place_of ps n + ends_at ps (head_of ps n)) → T (begins (pattern_at ps (place_of ps c)) (head_of ps c)) → place_of ps n ≤ place_of ps c
+      from : Dec (place_of ps c < place_of ps n + ends_at ps (head_of ps n)) → T (begins (pattern_at ps (place_of ps c)) (head_of ps c))
+          → place_of ps n ≤ place_of ps c
           → place_of ps n + ends_at ps (head_of ps n) ≤ place_of ps c
       from (yes d) b r =
           let q = place_of ps c in
@@ -171,7 +175,8 @@ module _ (ps : PatternSet) (g : T (good_set ps)) (z : 0 < length ps) (n : ℕ) (
       go r.0 r.1 r.2 q.0 p.0 s (dec_lt c r.0)
     where
       go : (e : ℕ) → first_child ps n ≤ e → e < first_child ps n + children ps n → place_of ps e ≤ place_of ps n + ends_at ps (head_of ps n)
-          → place_of ps n + ends_at ps (head_of ps n) ≤ place_of ps (first_child ps n) → 0 < begins_at ps (head_of ps (first_child ps n)) → Dec (first_child ps n < e)
+          → place_of ps n + ends_at ps (head_of ps n) ≤ place_of ps (first_child ps n) → 0 < begins_at ps (head_of ps (first_child ps n))
+          → Dec (first_child ps n < e)
           → place_of ps (first_child ps n) ≡ place_of ps n + ends_at ps (head_of ps n)
       go e o m q p s (yes d) = let a = children_apart (first_child ps n) e (omega arith) d m in absurd (let y : ⊥ = omega arith in y)
       go e o m q p s (no f) =
@@ -300,7 +305,11 @@ label_at ps h d t l e =
     ∙ ap (λ (u : List ℕ). get_or u (length h - 1) 0) q
 
 -- which is as long at least
-pub first_place-length : (ps : PatternSet) (h : List ℕ) → T (is_head ps h) → (first_place ps h < length ps) × (length h ≤ length (pattern_at ps (first_place ps h)))
+pub first_place-length : (ps : PatternSet) (h : List ℕ) → T (is_head ps h) → (first_place ps h < length ps)
+    × (length h ≤ length (pattern_at ps (first_place ps h)))
 first_place-length ps h t =
-    let s = begins_at_head ps h t in
-    (omega (arith, begins_within ps h), begins-length (pattern_at ps (first_place ps h)) h (begins_at_place ps h (first_place ps h) (omega arith) (omega arith)))
+    let s = begins_at_head ps h t in (
+      omega (arith, begins_within ps h),
+      begins-length (pattern_at ps (first_place ps h)) h
+          (begins_at_place ps h (first_place ps h) (omega arith) (omega arith)),
+    )

@@ -1,7 +1,9 @@
 -- THE ROW OF A NODE by that of its failure link: with one attempt more, then with the children put
 -- one after the other, and where a distance leads out of the window with the word for 0.
-use Rattle.lists.proofs.Prelude.{◌≡◌, ◌∙◌, ap, sym, refl, subst, Bool, true, false, cond, ◌&&◌, List, [], ℕ, ◌+◌, ◌-◌, ◌≤◌, ◌<◌, T, ltb, length, get_or, set}
-use Rattle.lists.proofs.Prelude.{take, get_or-take, get_or-set_same, get_or-set_other, length-set, get_or-append_seam, ext_get_or, dec_lt, arith, lt-ltb, le-ltb}
+use Rattle.std.specs.Prelude.{◌≡◌, ◌&&◌, ◌+◌, ◌-◌, ◌≤◌, ◌<◌}
+use Rattle.lists.proofs.Prelude.{◌∙◌, ap, sym, refl, subst, Bool, true, false, cond, List, [], ℕ, T, ltb, length, get_or, set}
+use Rattle.lists.proofs.Prelude.{take, get_or-take, get_or-set_same, get_or-set_other, length-set, get_or-append_seam, ext_get_or, dec_lt, arith}
+use Rattle.lists.proofs.Prelude.{lt-ltb, le-ltb}
 use Rattle.lists.proofs.Tests.{T-true, true-T}
 use Rattle.lists.proofs.Same.{same_eq}
 use Rattle.lists.proofs.Tables.{length-tabulate, get_or-tabulate}
@@ -124,7 +126,8 @@ module _ (ps : PatternSet) (g : T (good_set ps)) (z : 0 < length ps) (n : ℕ) (
         apart : T (is_head ps (child_head ps n x)) → child_node ps n x ≡ child → ⊥
         apart t q =
             let p : child_head ps n x ≡ child_head ps n v = sym (head_node ps g (child_head ps n x) t).1 ∙ ap (head_of ps) q ∙ e in
-            d (sym (get_or-append_seam (head_of ps n) x [] 0) ∙ ap (λ (l : List ℕ). get_or l (length (head_of ps n)) 0) p ∙ get_or-append_seam (head_of ps n) v [] 0)
+            d (sym (get_or-append_seam (head_of ps n) x [] 0) ∙ ap (λ (l : List ℕ). get_or l (length (head_of ps n)) 0) p
+            ∙ get_or-append_seam (head_of ps n) v [] 0)
 
         inner : T (is_head ps (child_head ps n x)) → Dec (child_node ps n x < child) → Dec (child < child_node ps n x)
             → ltb (child_node ps n x) child ≡ ltb (child_node ps n x) (first_child ps n + (count + 1))

@@ -2,7 +2,8 @@
 -- head that the one before it begins with exactly if they share as many distances as the head has.
 -- So the places whose patterns begin with a head are found by reading what is shared, from its
 -- first place on.
-use Rattle.lists.proofs.Prelude.{◌≡◌, ap, refl, List, ℕ, zero, suc, ◌+◌, ◌-◌, ◌≤◌, ◌<◌, T, length, take, length-take, sub-one, dec_lt, arith, begins}
+use Rattle.std.specs.Prelude.{◌≡◌, ◌+◌, ◌-◌, ◌≤◌, ◌<◌}
+use Rattle.lists.proofs.Prelude.{ap, refl, List, ℕ, zero, suc, T, length, take, length-take, sub-one, dec_lt, arith, begins}
 use Rattle.lists.proofs.Same.{same_eq}
 use Rattle.pattern_set.specs.PatternSet.{PatternSet}
 use Rattle.automaton_model.specs.Automaton.{common, shared_at}

@@ -1,5 +1,6 @@
 -- How large the words of a record are: no number is above that of the nodes, which is at most 4097.
-use Rattle.lists.proofs.Prelude.{List, ℕ, ◌+◌, ◌≤◌, ◌<◌, length, arith}
+use Rattle.std.specs.Prelude.{◌+◌, ◌≤◌, ◌<◌}
+use Rattle.lists.proofs.Prelude.{List, ℕ, length, arith}
 use Rattle.pattern_set.specs.PatternSet.{PatternSet, patterns_of, IsSet}
 use Rattle.automaton_model.specs.Automaton.{nodes, head_of, ends_at}
 use Rattle.automaton_model.proofs.Nodes.{node_head, head_length}

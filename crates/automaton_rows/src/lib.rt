@@ -2,7 +2,10 @@
 // from the row of its failure link and from the children that the set tells of. The nodes are made
 // by number, so for the row of node n the records of the nodes before it are there. k is the number
 // of patterns.
-ghost use Rattle.lists.specs.Prelude.{◌≡◌, [], ℕ, ◌+◌, ◌≤◌, ◌<◌, length, get_or};
+#![tactic(auto)]
+
+ghost use Rattle.std.specs.Prelude.{◌≡◌, ◌+◌, ◌≤◌, ◌<◌};
+ghost use Rattle.lists.specs.Prelude.{[], ℕ, length, get_or};
 ghost use Rattle.pattern_set.specs.PatternSet.{patterns_of};
 ghost use Rattle.matching.specs.Matching.{failure};
 ghost use Rattle.automaton_model.specs.Automaton.{nodes, head_of, node_of, order, ends_at, children, first_child, row_of};

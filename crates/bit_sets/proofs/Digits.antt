@@ -1,11 +1,12 @@
 -- A set by its lowest digit and the rest: m % 2 says whether 0 is in it, and m / 2 holds the other
 -- members, each less 1. The size, the lowest member and the set without it follow by recursion on
 -- the count of digits.
+use Rattle.std.specs.Prelude.{◌≡◌, ◌⊎◌, ◌&&◌, ◌||◌, ◌∷◌, ◌+◌, ◌-◌, ◌*◌, ◌/◌, ◌%◌, ◌^◌, ◌≤◌, ◌<◌}
 use lib.Arith.{lt-one}
 use lib.Bits.{bit_and, bit_or, bit_xor, and_step, and_shr, or_shr, xor_shr, and_mod, or_mod, xor_mod, and_self}
 use lib.Count.{ones, ones_step, count_trailing_zeros, under}
-use Rattle.lists.proofs.Prelude.{◌≡◌, ◌∙◌, ap, sym, refl, subst, ap₂, inl, inr, ◌⊎◌, Bool, false, cond, not, ◌&&◌, ◌||◌, List, [], ◌∷◌, map, ℕ, zero, suc, min}
-use Rattle.lists.proofs.Prelude.{◌+◌, ◌-◌, ◌*◌, ◌/◌, ◌%◌, ◌^◌, ◌≤◌, ◌<◌, T, eqb, eqb-suc-zero, eqb-suc-suc, eqb-zero-suc, length, drop, length-map, shr-shr}
+use Rattle.lists.proofs.Prelude.{◌∙◌, ap, sym, refl, subst, ap₂, inl, inr, Bool, false, cond, not, List, [], map, ℕ, zero, suc, min}
+use Rattle.lists.proofs.Prelude.{T, eqb, eqb-suc-zero, eqb-suc-suc, eqb-zero-suc, length, drop, length-map, shr-shr}
 use Rattle.lists.proofs.Prelude.{shr_lt}
 use Rattle.lists.proofs.Prelude.{add-zero, pow-suc, div-one, zero-min, min-zero, add-one, arith, tabulate, select}
 use Rattle.lists.proofs.Select.{select_ext, select-map}
@@ -90,7 +91,8 @@ first_bits_below (suc n) m p h = go (digit m) (λ q. first_bits_below n (m / 2) 
   where
     go : (m % 2 ≡ 0) ⊎ (m % 2 ≡ 1) → (0 < m / 2 → (count_trailing_zeros n (m / 2) < n) ×
         (bits_below n (m / 2) ≡ count_trailing_zeros n (m / 2) ∷ drop 1 (bits_below n (m / 2))))
-        → (under (m % 2) (count_trailing_zeros n (m / 2)) < suc n) × (bits_below (suc n) m ≡ under (m % 2) (count_trailing_zeros n (m / 2)) ∷ drop 1 (bits_below (suc n) m))
+        → (under (m % 2) (count_trailing_zeros n (m / 2)) < suc n)
+        × (bits_below (suc n) m ≡ under (m % 2) (count_trailing_zeros n (m / 2)) ∷ drop 1 (bits_below (suc n) m))
     go (inl e) ih =
         let r = ih (omega arith) in
         rw (bits_below_even n m e, drop_one_map suc (bits_below n (m / 2)), e) (omega (arith, r.0), ap (map suc) r.1)

@@ -1,9 +1,10 @@
 -- What the functions on sets of numbers below 64 give, in the words of their contracts, and laws of
 -- such sets for callers.
+use Rattle.std.specs.Prelude.{◌%◌, ◌&&◌, ◌*◌, ◌-◌, ◌/◌, ◌<◌, ◌^◌, ◌||◌, ◌↔◌, ◌∷◌, ◌≡◌, ◌≤◌, ◌⊎◌}
 use lib.Bits.{bit_and, bit_or, bit_xor, and_le_r, and_mask}
 use lib.Count.{ones, ones-le, count_trailing_zeros}
-use Rattle.lists.proofs.Prelude.{Bool, List, Memᴰ, Memᴰ-cases_cons, Memᴰ-head, Memᴰ-tail, T, [], ◌%◌, ◌&&◌, ◌*◌, ◌-◌, ◌/◌, ◌<◌, ◌^◌}
-use Rattle.lists.proofs.Prelude.{◌||◌, ◌↔◌, ◌∙◌, ◌∷◌, ◌≡◌, ◌≤◌, ◌⊎◌, ap, arith, cond, dec_lt, drop, eq-eqb, eqb, false, inl, inr, le-ltb, le_of_eq}
+use Rattle.lists.proofs.Prelude.{Bool, List, Memᴰ, Memᴰ-cases_cons, Memᴰ-head, Memᴰ-tail, T, []}
+use Rattle.lists.proofs.Prelude.{◌∙◌, ap, arith, cond, dec_lt, drop, eq-eqb, eqb, false, inl, inr, le-ltb, le_of_eq}
 use Rattle.lists.proofs.Prelude.{le_trans, length, lt-ltb, ltb, ne_eqb, not, pow-lt, refl, select, subst, suc, sym, tabulate, true, zero, ℕ}
 use Rattle.lists.proofs.Members.{mem_below}
 use Rattle.lists.proofs.Select.{mem-select, select_snoc_not}

@@ -1,7 +1,8 @@
 -- The members of a set whose digits are shifted up, and of one cut off at n digits.
+use Rattle.std.specs.Prelude.{◌≡◌, ◌&&◌, ◌-◌, ◌*◌, ◌/◌, ◌%◌, ◌^◌, ◌<◌}
 use lib.Bits.{and_mask}
 use lib.Dec.{leb-suc-suc}
-use Rattle.lists.proofs.Prelude.{◌≡◌, ◌∙◌, ap, sym, refl, Bool, true, false, ◌&&◌, ℕ, zero, suc, ◌-◌, ◌*◌, ◌/◌, ◌%◌, ◌^◌, ◌<◌, eqb, leb, arith, pow-suc}
+use Rattle.lists.proofs.Prelude.{◌∙◌, ap, sym, refl, Bool, true, false, ℕ, zero, suc, eqb, leb, arith, pow-suc}
 use Rattle.lists.proofs.Prelude.{pow_pos, mul_assoc, le-leb, lt-leb}
 use Rattle.lists.proofs.Tests.{and-true}
 use Rattle.bit_sets.specs.BitSets.{bit_at}

@@ -1,5 +1,6 @@
 -- A number of 64 binary digits as a set of numbers below 64: i is in the set where digit i is 1.
-use Rattle.lists.specs.Prelude.{Bool, List, ℕ, ◌/◌, ◌%◌, ◌^◌, eqb, tabulate, select}
+use Rattle.std.specs.Prelude.{◌/◌, ◌%◌, ◌^◌}
+use Rattle.lists.specs.Prelude.{Bool, List, ℕ, eqb, tabulate, select}
 
 -- is i in the set m
 unfoldable pub bit_at : ℕ → ℕ → Bool

@@ -1,5 +1,8 @@
 // A u64 as a set of numbers below 64: digit i is 1 where i is in the set.
-ghost use Rattle.lists.specs.Prelude.{◌≡◌, not, ◌&&◌, ◌||◌, ◌∷◌, ℕ, ◌<◌, eqb, length, drop};
+#![tactic(auto)]
+
+ghost use Rattle.std.specs.Prelude.{◌≡◌, ◌&&◌, ◌||◌, ◌∷◌, ◌<◌};
+ghost use Rattle.lists.specs.Prelude.{not, ℕ, eqb, length, drop};
 ghost use Rattle.bit_sets.specs.BitSets.{bit_at, bits};
 
 // Whether i is in the set.

@@ -1,6 +1,7 @@
 -- The distances by recursion on the list, nearest value first, for proofs by induction:
 -- `distances_list` says that they are the distances.
-use Rattle.lists.proofs.Prelude.{◌≡◌, ◌∙◌, ap, sym, refl, Bool, true, false, cond, List, [], ◌∷◌, ◌++◌, ℕ, zero, suc, ◌+◌, ◌-◌, ◌≤◌, ℤ, pos, le_z, length, get_or}
+use Rattle.std.specs.Prelude.{◌≡◌, ◌∷◌, ◌++◌, ◌+◌, ◌-◌, ◌≤◌}
+use Rattle.lists.proofs.Prelude.{◌∙◌, ap, sym, refl, Bool, true, false, cond, List, [], ℕ, zero, suc, ℤ, pos, le_z, length, get_or}
 use Rattle.lists.proofs.Prelude.{take, take-suc, take-length, le_refl, arith, tabulate, last_below}
 use Rattle.cartesian.specs.Cartesian.{seek, apart, distance_at, distances}
 use Rattle.cartesian.proofs.Seek.{seek-le}

@@ -1,6 +1,7 @@
 -- The tree as a relation, for proofs by induction, and that `tree` computes it.
-use Rattle.lists.proofs.Prelude.{◌≡◌, ◌∙◌, ap, sym, refl, subst, ap₂, inl, inr, ◌⊎◌, ⊎_elim, Bool, true, false, cond, not, List, [], ◌∷◌, ◌++◌, ℕ, zero, suc}
-use Rattle.lists.proofs.Prelude.{◌+◌, ◌≤◌, ◌<◌, ℤ, pos, lt_z, ◌≤ℤ◌, ◌<ℤ◌, lt_z_yes, ≤ℤ_refl, <ℤ-≤ℤ_trans, lt_z_no, length, get_or, take, drop, length-take}
+use Rattle.std.specs.Prelude.{◌≡◌, ◌⊎◌, ◌∷◌, ◌++◌, ◌+◌, ◌≤◌, ◌<◌, ◌≤ℤ◌, ◌<ℤ◌}
+use Rattle.lists.proofs.Prelude.{◌∙◌, ap, sym, refl, subst, ap₂, inl, inr, ⊎_elim, Bool, true, false, cond, not, List, [], ℕ, zero, suc}
+use Rattle.lists.proofs.Prelude.{ℤ, pos, lt_z, lt_z_yes, ≤ℤ_refl, <ℤ-≤ℤ_trans, lt_z_no, length, get_or, take, drop, length-take}
 use Rattle.lists.proofs.Prelude.{length-drop, get_or-take, get_or-drop, split_at, le_refl, add-zero, add-suc, arith, not-true}
 use Rattle.lists.proofs.Tests.{T-true}
 use Rattle.lists.proofs.Order.{le_z-not-lt_z, le-le_z, <ℤ-≤ℤ}

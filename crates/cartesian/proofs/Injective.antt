@@ -1,5 +1,6 @@
 -- The tree is a function of the distances: one list of distances has one tree.
-use Rattle.lists.proofs.Prelude.{get_or, ◌≤◌, ◌+◌, arith, zero, suc, ◌≡◌, ◌∙◌, sym, refl, subst, ap₂, List, [], ◌∷◌, ◌++◌, nil≢cons, cons≢nil, head-eq_of_cons-eq}
+use Rattle.std.specs.Prelude.{◌≤◌, ◌+◌, ◌≡◌, ◌∷◌, ◌++◌}
+use Rattle.lists.proofs.Prelude.{get_or, arith, zero, suc, ◌∙◌, sym, refl, subst, ap₂, List, [], nil≢cons, cons≢nil, head-eq_of_cons-eq}
 use Rattle.lists.proofs.Prelude.{tail-eq_of_cons-eq, ℕ, zero-le, ℤ, length, le_refl, add-zero}
 use Rattle.cartesian.specs.Cartesian.{distances, Tree, leaf, node}
 use Rattle.cartesian.proofs.HasTree.{HasTree}

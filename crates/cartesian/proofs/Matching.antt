@@ -1,6 +1,7 @@
 -- THE MATCHING LAW: two lists have equal trees exactly if their distances are equal. And that
 -- `same_tree` decides equality.
-use Rattle.lists.proofs.Prelude.{◌≡◌, sym, refl, subst, ap₂, ◌↔◌, List, ℤ, T}
+use Rattle.std.specs.Prelude.{◌≡◌, ◌↔◌}
+use Rattle.lists.proofs.Prelude.{sym, refl, subst, ap₂, List, ℤ, T}
 use Rattle.lists.proofs.Tests.{and_split, and_join}
 use Rattle.cartesian.specs.Cartesian.{Tree, leaf, node, tree, same_tree, distances}
 use Rattle.cartesian.proofs.HasTree.{HasTree, tree_has}

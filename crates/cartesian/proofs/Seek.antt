@@ -1,7 +1,8 @@
 -- Laws of `seek` and of the parent distance at a place: bounds, windows, and known distances as
 -- links.
+use Rattle.std.specs.Prelude.{◌≡◌, ◌∷◌, ◌+◌, ◌-◌, ◌≤◌, ◌<◌, ◌<ℤ◌}
 use Rattle.lists.proofs.Order.{le_z_above, le-le_z, lt-le_z, <ℤ-≤ℤ}
-use Rattle.lists.proofs.Prelude.{◌≡◌, ◌∙◌, ap, sym, refl, Bool, true, false, cond, List, [], ◌∷◌, ℕ, zero, suc, ◌+◌, ◌-◌, ◌≤◌, ◌<◌, zero-le, ℤ, pos, le_z, ◌<ℤ◌}
+use Rattle.lists.proofs.Prelude.{◌∙◌, ap, sym, refl, Bool, true, false, cond, List, [], ℕ, zero, suc, zero-le, ℤ, pos, le_z}
 use Rattle.lists.proofs.Prelude.{≤ℤ_refl, <ℤ-≤ℤ_trans, length, get_or, drop, get_or-drop, add-zero, add-suc, arith, le-leb, lt-leb, tabulate, last_below}
 use Rattle.lists.proofs.LastBelow.{last_below-le, last_below_no}
 use Rattle.lists.proofs.Tables.{length-tabulate, get_or-tabulate}
@@ -80,7 +81,8 @@ skip s x y (suc n) h = go (le_z (get_or s n (pos 0)) y) refl (skip s x y n h)
     go false e ih = rw (lt-le_z (<ℤ-≤ℤ_trans h (<ℤ-≤ℤ (le_z_above (get_or s n (pos 0)) y e)))) ih
 
 jump : (s : List ℤ) (x : ℤ) (k : ℕ) → 0 < k → le_z (get_or s (k - 1) (pos 0)) x ≡ false → seek s x k ≡ seek s x (seek s (get_or s (k - 1) (pos 0)) (k - 1))
-jump s x k h e = last_below_no (λ j. le_z (get_or s j (pos 0)) x) k h e ∙ skip s x (get_or s (k - 1) (pos 0)) (k - 1) (le_z_above (get_or s (k - 1) (pos 0)) x e)
+jump s x k h e = last_below_no (λ j. le_z (get_or s j (pos 0)) x) k h e
+    ∙ skip s x (get_or s (k - 1) (pos 0)) (k - 1) (le_z_above (get_or s (k - 1) (pos 0)) x e)
 
 -- a distance gives its link back
 apart_none : (n q : ℕ) → q ≤ n → apart n q ≡ 0 → q ≡ 0
@@ -102,7 +104,8 @@ distance_le s n = go (seek s (get_or s n (pos 0)) n)
 pub jump_none : (s : List ℤ) (x : ℤ) (k d : ℕ) → 0 < k → le_z (get_or s (k - 1) (pos 0)) x ≡ false → d ≡ distance_at s (k - 1) → d ≡ 0 → 0 ≡ seek s x k
 unfolding distance_at last_below
 jump_none s x k d h e p z =
-    sym (jump s x k h e ∙ ap (seek s x) (apart_none (k - 1) (seek s (get_or s (k - 1) (pos 0)) (k - 1)) (seek-le s (get_or s (k - 1) (pos 0)) (k - 1)) (sym p ∙ z)))
+    sym (jump s x k h e ∙ ap (seek s x) (apart_none (k - 1) (seek s (get_or s (k - 1) (pos 0)) (k - 1)) (seek-le s (get_or s (k - 1) (pos 0)) (k - 1))
+    (sym p ∙ z)))
 
 pub jump_some : (s : List ℤ) (x : ℤ) (k d : ℕ) → 0 < k → le_z (get_or s (k - 1) (pos 0)) x ≡ false → d ≡ distance_at s (k - 1) → (d ≡ 0 → ⊥)
     → seek s x k ≡ seek s x (k - d)

@@ -1,5 +1,6 @@
 -- A tree has as many places as its list, of values or of distances.
-use Rattle.lists.proofs.Prelude.{◌≡◌, ◌∙◌, ap, refl, ap₂, List, [], ◌∷◌, ℕ, zero, suc, ◌+◌, ◌-◌, ◌≤◌, ℤ, length, take, drop, length-append, length-take}
+use Rattle.std.specs.Prelude.{◌≡◌, ◌∷◌, ◌+◌, ◌-◌, ◌≤◌}
+use Rattle.lists.proofs.Prelude.{◌∙◌, ap, refl, ap₂, List, [], ℕ, zero, suc, ℤ, length, take, drop, length-append, length-take}
 use Rattle.lists.proofs.Prelude.{length-drop, le_refl, arith}
 use Rattle.cartesian.specs.Cartesian.{Tree, size, tree, cut_from, root_place, tree_of_within, tree_of}
 use Rattle.cartesian.proofs.HasTree.{HasTree, empty, root, tree_has}

@@ -1,7 +1,8 @@
 -- The distances are a function of the tree: two lists with one tree have one list of distances.
+use Rattle.std.specs.Prelude.{◌≡◌, ◌∷◌, ◌++◌, ◌+◌, ◌<◌, ◌≤ℤ◌, ◌<ℤ◌}
 use Rattle.lists.proofs.Places.{get_or_before, get_or_after}
-use Rattle.lists.proofs.Prelude.{get_or_at, ◌≡◌, ◌∙◌, ap, sym, refl, ap₂, Bool, true, false, cond, List, [], ◌∷◌, ◌++◌, ℕ, zero, suc, ◌+◌, ◌<◌, ℤ, le_z, ◌≤ℤ◌}
-use Rattle.lists.proofs.Prelude.{◌<ℤ◌, length, get_or, length-append, add-zero, arith}
+use Rattle.lists.proofs.Prelude.{get_or_at, ◌∙◌, ap, sym, refl, ap₂, Bool, true, false, cond, List, [], ℕ, zero, suc, ℤ, le_z}
+use Rattle.lists.proofs.Prelude.{length, get_or, length-append, add-zero, arith}
 use Rattle.lists.proofs.Order.{le-le_z, lt-le_z}
 use Rattle.cartesian.specs.Cartesian.{Tree, leaf, node, size, distances}
 use Rattle.cartesian.proofs.ByList.{back, dists_from, onto, dists_app, distances_list}

@@ -1,7 +1,9 @@
 -- The tree of a list of distances is the tree of the values that have them: the last 0 is the root,
 -- and what is after it is a window.
-use Rattle.lists.proofs.Prelude.{◌≡◌, ◌∙◌, ap, sym, refl, ap₂, List, [], ◌∷◌, ◌++◌, ℕ, zero, suc, pred, ◌+◌, ◌-◌, ◌≤◌, ◌<◌, ℤ, eqb, eqb→eq, length, get_or, take}
-use Rattle.lists.proofs.Prelude.{drop, length-append, length-take, length-drop, take-append_seam, drop-append-add, get_or-append-add, get_or-append_seam, le_refl}
+use Rattle.std.specs.Prelude.{◌≡◌, ◌∷◌, ◌++◌, ◌+◌, ◌-◌, ◌≤◌, ◌<◌}
+use Rattle.lists.proofs.Prelude.{◌∙◌, ap, sym, refl, ap₂, List, [], ℕ, zero, suc, pred, ℤ, eqb, eqb→eq, length, get_or, take}
+use Rattle.lists.proofs.Prelude.{drop, length-append, length-take, length-drop, take-append_seam, drop-append-add, get_or-append-add}
+use Rattle.lists.proofs.Prelude.{get_or-append_seam, le_refl}
 use Rattle.lists.proofs.Prelude.{arith, le-leb, lt-leb, last_below}
 use Rattle.lists.proofs.LastBelow.{last_below-le, last_below_is}
 use Rattle.cartesian.specs.Cartesian.{Tree, leaf, node, tree, distances, cut_from, root_place, tree_of_within, tree_of}

@@ -1,6 +1,7 @@
 -- THE WINDOW LAW (002): the distances of a window are those of the whole text, cut.
-use Rattle.lists.proofs.Prelude.{◌≡◌, ◌∙◌, ap, refl, List, [], ◌∷◌, ℕ, zero, suc, ◌+◌, ◌-◌, ◌<◌, ℤ, length, get_or, take, drop, length-drop, get_or-drop, ext_get_or}
-use Rattle.lists.proofs.Prelude.{add-zero, arith, last_of, ◌++◌, ◌≤◌}
+use Rattle.std.specs.Prelude.{◌≡◌, ◌∷◌, ◌+◌, ◌-◌, ◌<◌, ◌++◌, ◌≤◌}
+use Rattle.lists.proofs.Prelude.{◌∙◌, ap, refl, List, [], ℕ, zero, suc, ℤ, length, get_or, take, drop, length-drop, get_or-drop, ext_get_or}
+use Rattle.lists.proofs.Prelude.{add-zero, arith, last_of}
 use Rattle.lists.proofs.Parts.{length-last_of, last_of_snoc}
 use Rattle.cartesian.specs.Cartesian.{distances, cut, cut_from}
 use Rattle.cartesian.specs.Windows.{suffix_distances}

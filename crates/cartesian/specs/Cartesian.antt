@@ -1,6 +1,7 @@
 -- Cartesian trees, parent distances, parent distances in a window, and the tree that a list of
 -- distances stands for. Document 01: Tree; Distance; Distances of a window.
-use Rattle.lists.specs.Prelude.{Bool, true, false, cond, ◌&&◌, List, [], ◌∷◌, ℕ, zero, suc, pred, ◌+◌, ◌-◌, eqb, leb, ℤ, pos, le_z, lt_z, length, get_or, take}
+use Rattle.std.specs.Prelude.{◌&&◌, ◌∷◌, ◌+◌, ◌-◌}
+use Rattle.lists.specs.Prelude.{Bool, true, false, cond, List, [], ℕ, zero, suc, pred, eqb, leb, ℤ, pos, le_z, lt_z, length, get_or, take}
 use Rattle.lists.specs.Prelude.{drop, tabulate, last_below}
 
 -- ---- Cartesian trees. Document 01: Tree.

@@ -1,7 +1,9 @@
 // Cases of a test program's input: numbers and arrays read from it, arrays compared with it, and
 // the way from case to case. All numbers are decimal.
-ghost use Rattle.lists.specs.Prelude.{◌≡◌, ◌+◌, ◌≤◌, ◌<◌, eqb};
-ghost use Rattle.std.specs.Prelude.{if◌then◌else◌};
+#![tactic(auto)]
+
+ghost use Rattle.lists.specs.Prelude.{eqb};
+ghost use Rattle.std.specs.Prelude.{if◌then◌else◌, ◌≡◌, ◌+◌, ◌≤◌, ◌<◌};
 ghost use Rattle.test_differences.specs.Difference.{first_of};
 ghost use Rattle.test_tally.specs.Tally.{no_cases, counted};
 
@@ -11,7 +13,7 @@ use test_differences::{difference, expect};
 use test_tally::Tally;
 
 // A number of the input, and the place behind it.
-#[derive(Drop)]
+#[derive(Clone, Copy)]
 pub struct Token {
     pub at: usize,
     pub size: u64,
@@ -19,14 +21,14 @@ pub struct Token {
 }
 
 // What differs in a case, and the place behind it.
-#[derive(Drop)]
+#[derive(Clone, Copy)]
 pub struct Outcome {
     pub at: usize,
     pub difference: Difference,
 }
 
 // The refusal and the count that are expected, and the place behind them.
-#[derive(Drop)]
+#[derive(Clone, Copy)]
 pub struct Expected {
     pub at: usize,
     pub refusal: u64,
@@ -36,7 +38,7 @@ pub struct Expected {
 // A case that is reached: its first number and the place behind that, the line that it begins on,
 // how many cases may be run from it on, and what was counted before it. At the end of the input
 // none may be run.
-#[derive(Drop)]
+#[derive(Clone, Copy)]
 pub struct Reached {
     pub at: usize,
     pub first: u64,
@@ -257,7 +259,7 @@ pub fn expect_values(s: &[u8], from: usize, a: &[i32]) -> Outcome
 }
 
 // A value that stands in the input so many times more, and the place behind it.
-#[derive(Drop)]
+#[derive(Clone, Copy)]
 struct Run {
     at: usize,
     left: u64,
@@ -286,7 +288,7 @@ fn next_value(s: &[u8], r: Run) -> Run
 }
 
 // What differs in runs, and the run that is read.
-#[derive(Drop)]
+#[derive(Clone, Copy)]
 struct Running {
     run: Run,
     difference: Difference,
@@ -427,12 +429,12 @@ pub fn first_case(s: &[u8]) -> Reached
 }
 
 // The case behind one that had an outcome, which is counted.
-pub fn next_case(s: &[u8], c: Reached, o: Outcome) -> Reached
+pub fn next_case(rt: &HostRuntime, s: &[u8], c: Reached, o: Outcome) -> Reached
     requires { 0 < c.left }
     ensures { (result.left < c.left) × (result.tally ≡ counted c.tally o.difference) }
 {
     let d = o.difference;
     let before = c.tally;
-    let t = test_tally::lined(before, c.line, d);
+    let t = test_tally::lined(rt, before, c.line, d);
     reach(s, c, o.at, c.left - 1, t)
 }

@@ -72,28 +72,33 @@ fn short(set: &[u32], automaton: &[u32], words: usize, values: usize) -> Differe
     difference::first(expect_short(s), written::expect(&[], &[], &hits, &rises))
 }
 
-fn enough(t: Tally, set: &[u32], automaton: &[u32]) -> Tally {
-    let a = test_tally::named(t, b"6 words, 3 values", full(set, automaton, 6, 3));
-    let b = test_tally::named(a, b"6 words, 8 values", full(set, automaton, 6, 8));
-    test_tally::named(b, b"7 words, 4 values", full(set, automaton, 7, 4))
+fn enough(rt: &HostRuntime, t: Tally, set: &[u32], automaton: &[u32]) -> Tally {
+    let a = test_tally::named(rt, t, b"6 words, 3 values", full(set, automaton, 6, 3));
+    let b = test_tally::named(rt, a, b"6 words, 8 values", full(set, automaton, 6, 8));
+    test_tally::named(rt, b, b"7 words, 4 values", full(set, automaton, 7, 4))
 }
 
-fn too_short(t: Tally, set: &[u32], automaton: &[u32]) -> Tally {
-    let a = test_tally::named(t, b"5 words, 8 values", short(set, automaton, 5, 8));
-    let b = test_tally::named(a, b"5 words, 2 values", short(set, automaton, 5, 2));
-    let c = test_tally::named(b, b"6 words, 2 values", short(set, automaton, 6, 2));
-    let d = test_tally::named(c, b"7 words, 3 values", short(set, automaton, 7, 3));
-    test_tally::named(d, b"8 words, no value", short(set, automaton, 8, 0))
+fn too_short(rt: &HostRuntime, t: Tally, set: &[u32], automaton: &[u32]) -> Tally {
+    let a = test_tally::named(rt, t, b"5 words, 8 values", short(set, automaton, 5, 8));
+    let b = test_tally::named(rt, a, b"5 words, 2 values", short(set, automaton, 5, 2));
+    let c = test_tally::named(rt, b, b"6 words, 2 values", short(set, automaton, 6, 2));
+    let d = test_tally::named(rt, c, b"7 words, 3 values", short(set, automaton, 7, 3));
+    test_tally::named(rt, d, b"8 words, no value", short(set, automaton, 8, 0))
 }
 
-fn over(set: &[u32], automaton: &mut [u32]) -> Tally {
+fn over(rt: &HostRuntime, set: &[u32], automaton: &mut [u32]) -> Tally {
     finder::build_automaton(set, automaton);
-    too_short(enough(test_tally::none(), set, automaton), set, automaton)
+    too_short(
+        rt,
+        enough(rt, test_tally::none(), set, automaton),
+        set,
+        automaton,
+    )
 }
 
-pub(crate) fn all_cases(group: &[u8], set: &[u32]) -> Tally {
+pub(crate) fn all_cases(rt: &HostRuntime, group: &[u8], set: &[u32]) -> Tally {
     let mut automaton = [0u32; 240];
-    let t = over(set, &mut automaton);
-    test_tally::report(group, t);
+    let t = over(rt, set, &mut automaton);
+    test_tally::report(rt, group, t);
     t
 }

@@ -55,29 +55,33 @@ fn empty(set: &[u32], number: u64, words: usize, values: usize) -> Difference {
     )
 }
 
-fn enough(t: Tally, set: &[u32]) -> Tally {
-    let a = test_tally::named(t, b"6 words, 3 values", found(set, 6, 3));
-    let b = test_tally::named(a, b"7 words, 4 values", found(set, 7, 4));
-    test_tally::named(b, b"8 words, 8 values", found(set, 8, 8))
+fn enough(rt: &HostRuntime, t: Tally, set: &[u32]) -> Tally {
+    let a = test_tally::named(rt, t, b"6 words, 3 values", found(set, 6, 3));
+    let b = test_tally::named(rt, a, b"7 words, 4 values", found(set, 7, 4));
+    test_tally::named(rt, b, b"8 words, 8 values", found(set, 8, 8))
 }
 
 // A second array that is too short comes before a hit array that is.
-fn too_short(t: Tally, set: &[u32]) -> Tally {
-    let a = test_tally::named(t, b"5 words, 3 values", refused(set, 11, 5, 3));
-    let b = test_tally::named(a, b"5 words, 2 values", refused(set, 10, 5, 2));
-    let c = test_tally::named(b, b"6 words, 2 values", refused(set, 10, 6, 2));
-    let d = test_tally::named(c, b"7 words, 3 values", refused(set, 10, 7, 3));
-    test_tally::named(d, b"no word, no value", refused(set, 11, 0, 0))
+fn too_short(rt: &HostRuntime, t: Tally, set: &[u32]) -> Tally {
+    let a = test_tally::named(rt, t, b"5 words, 3 values", refused(set, 11, 5, 3));
+    let b = test_tally::named(rt, a, b"5 words, 2 values", refused(set, 10, 5, 2));
+    let c = test_tally::named(rt, b, b"6 words, 2 values", refused(set, 10, 6, 2));
+    let d = test_tally::named(rt, c, b"7 words, 3 values", refused(set, 10, 7, 3));
+    test_tally::named(rt, d, b"no word, no value", refused(set, 11, 0, 0))
 }
 
-fn no_values(t: Tally, set: &[u32]) -> Tally {
-    let a = test_tally::named(t, b"no text, no word, no value", empty(set, 0, 0, 0));
-    let b = test_tally::named(a, b"no text, one word, one value", empty(set, 0, 1, 1));
-    test_tally::named(b, b"no text, one word, no value", empty(set, 10, 1, 0))
+fn no_values(rt: &HostRuntime, t: Tally, set: &[u32]) -> Tally {
+    let a = test_tally::named(rt, t, b"no text, no word, no value", empty(set, 0, 0, 0));
+    let b = test_tally::named(rt, a, b"no text, one word, one value", empty(set, 0, 1, 1));
+    test_tally::named(rt, b, b"no text, one word, no value", empty(set, 10, 1, 0))
 }
 
-pub(crate) fn all_cases(group: &[u8], set: &[u32]) -> Tally {
-    let t = no_values(too_short(enough(test_tally::none(), set), set), set);
-    test_tally::report(group, t);
+pub(crate) fn all_cases(rt: &HostRuntime, group: &[u8], set: &[u32]) -> Tally {
+    let t = no_values(
+        rt,
+        too_short(rt, enough(rt, test_tally::none(), set), set),
+        set,
+    );
+    test_tally::report(rt, group, t);
     t
 }

@@ -1,5 +1,5 @@
 // Building the automaton of a set, compared with the plain one.
-ghost use Rattle.lists.specs.Prelude.{◌≤◌};
+ghost use Rattle.std.specs.Prelude.{◌≤◌};
 
 use answers::Built;
 use test_differences::difference::{Difference, Part};
@@ -7,7 +7,7 @@ use test_differences::{difference, expect};
 use test_inputs::arrays;
 
 // The nodes of the plain automaton of a set, and what differs from it in the one that is built.
-#[derive(Drop)]
+#[derive(Clone, Copy)]
 pub(crate) struct Compared {
     pub(crate) nodes: usize,
     pub(crate) difference: Difference,

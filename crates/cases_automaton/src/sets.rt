@@ -1,5 +1,5 @@
 // The sets.
-ghost use Rattle.lists.specs.Prelude.{◌<◌};
+ghost use Rattle.std.specs.Prelude.{◌<◌};
 
 use crate::{built, changed};
 use test_differences::difference::{Difference, Part};

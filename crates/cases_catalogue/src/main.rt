@@ -1,9 +1,12 @@
 // Walks the catalogue of each length from 1 to 10 by the entry `next_list`: from zeros on, each
 // call over the list that the one before wrote. Every call is held against a plain enumeration,
 // with every word lent, and the number of lists of each length against the Catalan number.
+#![tactic(auto)]
+
 mod plain;
 
-ghost use Rattle.lists.specs.Prelude.{◌≡◌, ◌≤◌, length};
+ghost use Rattle.std.specs.Prelude.{◌≡◌, ◌≤◌};
+ghost use Rattle.lists.specs.Prelude.{length};
 
 use answers::NextList;
 use test_differences::difference::{Difference, Part};
@@ -15,7 +18,7 @@ use test_tally::Tally;
 const MOST: usize = 20000;
 
 // How many lists were met, and what was counted.
-#[derive(Drop)]
+#[derive(Clone, Copy)]
 struct Walked {
     lists: usize,
     tally: Tally,
@@ -66,13 +69,13 @@ fn take_over(list: &mut [u32], out: &[u32])
 }
 
 // The walk from a list on, beside the plain enumeration from the same list on.
-fn walk(t: Tally, list: &mut [u32], want: &mut [u32], out: &mut [u32]) -> Walked {
+fn walk(rt: &HostRuntime, t: Tally, list: &mut [u32], want: &mut [u32], out: &mut [u32]) -> Walked {
     let mut tally = t;
     let mut lists = 1;
     while lists < MOST {
         let more = plain::next(want);
         let d = expect_call(list, more, want, out);
-        tally = test_tally::numbered(tally, b"list, ", lists, d);
+        tally = test_tally::numbered(rt, tally, b"list, ", lists, d);
         if !more {
             break;
         }
@@ -96,37 +99,44 @@ fn catalan(n: usize) -> u64
 }
 
 // The walk of so many places from zeros on, and its number of lists.
-fn walk_zeros(t: Tally, n: usize, list: &mut [u32], want: &mut [u32], out: &mut [u32]) -> Tally
+fn walk_zeros(
+    rt: &HostRuntime,
+    t: Tally,
+    n: usize,
+    list: &mut [u32],
+    want: &mut [u32],
+    out: &mut [u32],
+) -> Tally
     requires { n ≤ 10 }
 {
-    let w = walk(t, list, want, out);
+    let w = walk(rt, t, list, want, out);
     let tally = w.tally;
     let d = difference::expect(Part::Lists, catalan(n), w.lists as u64);
-    test_tally::numbered(tally, b"length, ", n, d)
+    test_tally::numbered(rt, tally, b"length, ", n, d)
 }
 
 // The walk through the catalogue of length n.
-fn walk_length(t: Tally, n: usize) -> Tally
+fn walk_length(rt: &HostRuntime, t: Tally, n: usize) -> Tally
     requires { n ≤ 10 }
 {
     let mut list = [0u32; 10];
     let mut want = [0u32; 10];
     let mut out = [0u32; 12];
-    walk_zeros(t, n, &mut list[..n], &mut want[..n], &mut out[..n + 2])
+    walk_zeros(rt, t, n, &mut list[..n], &mut want[..n], &mut out[..n + 2])
 }
 
 // The walks through the catalogues of all lengths.
-fn walk_all() -> Tally {
+fn walk_all(rt: &HostRuntime) -> Tally {
     let mut t = test_tally::none();
     let mut n: usize = 1;
     while n <= 10 {
-        t = walk_length(t, n);
+        t = walk_length(rt, t, n);
         n += 1;
     }
     t
 }
 
-fn main() {
-    let t = walk_all();
-    test_tally::report(b"catalogues: ", t);
+fn main(rt: HostRuntime) {
+    let t = walk_all(&rt);
+    test_tally::report(&rt, b"catalogues: ", t);
 }

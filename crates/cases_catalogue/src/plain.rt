@@ -1,6 +1,7 @@
 // A plain enumeration of the lists that some values have: all lists of numbers that are at most
 // their places are counted up, and those stay whose links do not cross.
-ghost use Rattle.lists.specs.Prelude.{◌≡◌, length};
+ghost use Rattle.std.specs.Prelude.{◌≡◌};
+ghost use Rattle.lists.specs.Prelude.{length};
 
 use test_inputs::arrays;
 

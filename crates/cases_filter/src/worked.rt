@@ -66,13 +66,13 @@ fn flat_case(n: usize, a: usize, b: usize) -> Difference {
     flat_in(n, a, b, &[-5; 60], &mut set)
 }
 
-fn flat_cases(group: &[u8]) -> Tally {
+fn flat_cases(rt: &HostRuntime, group: &[u8]) -> Tally {
     let mut t = test_tally::none();
     let mut n: usize = 0;
     while n < 41 {
         let first = flat_case(n, 5, 2);
         let second = flat_case(n, 30, 21);
-        t = test_tally::numbered(t, group, n, difference::first(first, second));
+        t = test_tally::numbered(rt, t, group, n, difference::first(first, second));
         n += 1;
     }
     t
@@ -95,7 +95,7 @@ fn refused_set(set: &[u32], number: u64) -> Difference {
 
 // The empty set is refused under 1, what is no set under 5, and a set that holds a pattern of one
 // value under 15.
-fn refusals() -> Difference {
+fn refusals(rt: &HostRuntime) -> Difference {
     let a = refused_set(&[0, 0, 0, 8], 1);
     let b = refused_set(&[0, 1, 0], 5);
     let c = refused_set(&[1, 2, 0, 2, 0], 5);
@@ -106,14 +106,15 @@ fn refusals() -> Difference {
     difference::first(others, difference::first(e, f))
 }
 
-pub(crate) fn all_cases(group: &[u8]) -> Tally {
+pub(crate) fn all_cases(rt: &HostRuntime, group: &[u8]) -> Tally {
     let t = test_tally::named(
-        flat_cases(b"flat texts: "),
+        rt,
+        flat_cases(rt, b"flat texts: "),
         b"first starred text",
         starred_case(),
     );
-    let u = test_tally::named(t, b"second starred text", other_starred_case());
-    let v = test_tally::named(u, b"refused sets", refusals());
-    test_tally::report(group, v);
+    let u = test_tally::named(rt, t, b"second starred text", other_starred_case());
+    let v = test_tally::named(rt, u, b"refused sets", refusals(rt));
+    test_tally::report(rt, group, v);
     v
 }

@@ -1,5 +1,5 @@
 // Cases of texts with gaps.
-ghost use Rattle.lists.specs.Prelude.{◌≤◌};
+ghost use Rattle.std.specs.Prelude.{◌≤◌};
 
 use test_differences::difference::Difference;
 use test_inputs::{arrays, texts};

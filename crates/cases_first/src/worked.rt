@@ -89,31 +89,34 @@ fn other_automata() -> Difference {
 
 // ---- all
 
-fn answers_of(t: Tally) -> Tally {
-    let a = test_tally::named(t, b"empty text", expect_hit(&[], &[], 0));
-    let b = test_tally::named(a, b"no hit", expect_hit(&[4, 5, 6, 6], &[], 0));
+fn answers_of(rt: &HostRuntime, t: Tally) -> Tally {
+    let a = test_tally::named(rt, t, b"empty text", expect_hit(&[], &[], 0));
+    let b = test_tally::named(rt, a, b"no hit", expect_hit(&[4, 5, 6, 6], &[], 0));
     let c = test_tally::named(
+        rt,
         b,
         b"hit at the last place",
         expect_hit(&[4, 5, 6, 2], &[3, 0], 1),
     );
     let d = test_tally::named(
+        rt,
         c,
         b"longest before lowest number",
         expect_hit(&[4, 6, 5, 1], &[2, 1], 1),
     );
-    let e = test_tally::named(d, b"gaps only", expect_hit(&[-2147483648; 9], &[], 0));
+    let e = test_tally::named(rt, d, b"gaps only", expect_hit(&[-2147483648; 9], &[], 0));
     test_tally::named(
+        rt,
         e,
         b"behind a gap",
         expect_hit(&[6, -2147483648, 5, 7, -2147483648, 6, 6, 3], &[7, 0], 1),
     )
 }
 
-pub(crate) fn all_cases(group: &[u8]) -> Tally {
-    let t = answers_of(test_tally::none());
-    let u = test_tally::named(t, b"refused sets", refused_sets());
-    let v = test_tally::named(u, b"refused automata", other_automata());
-    test_tally::report(group, v);
+pub(crate) fn all_cases(rt: &HostRuntime, group: &[u8]) -> Tally {
+    let t = answers_of(rt, test_tally::none());
+    let u = test_tally::named(rt, t, b"refused sets", refused_sets());
+    let v = test_tally::named(rt, u, b"refused automata", other_automata());
+    test_tally::report(rt, group, v);
     v
 }

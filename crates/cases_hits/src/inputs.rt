@@ -1,7 +1,7 @@
 // Inputs put together from their pieces.
 
 // The place behind what is read of the input, and the number of bytes put.
-#[derive(Drop)]
+#[derive(Clone, Copy)]
 pub(crate) struct Filled {
     pub(crate) at: usize,
     pub(crate) to: usize,

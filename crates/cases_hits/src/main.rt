@@ -12,6 +12,8 @@
 //       the text's values, those, and the number of the refusal
 //   behind a refusal of 0 the number of bytes of what is printed, a newline, these bytes
 // Values are given in runs: length of the run, value.
+#![tactic(auto)]
+
 mod inputs;
 mod reading;
 mod searching;
@@ -33,18 +35,18 @@ fn case_in(s: &[u8], pieces: u64, at: usize) -> Outcome {
 
 // Runs the cases from the start of the input, and prints how many there are and how many of them
 // failed.
-fn run(s: &[u8]) {
+fn run(rt: &HostRuntime, s: &[u8]) {
     let mut c = case_input::first_case(s);
     while c.left > 0 {
-        c = case_input::next_case(s, c, case_in(s, c.first, c.at));
+        c = case_input::next_case(rt, s, c, case_in(s, c.first, c.at));
     }
     let t = c.tally;
-    test_tally::report_as(b"", t, b" inputs, ");
+    test_tally::report_as(rt, b"", t, b" inputs, ");
 }
 
 // Runs the cases of standard input.
-fn main() {
+fn main(rt: HostRuntime) {
     let mut buf = [0u8; 327680];
-    let n = io::read_full(0, &mut buf);
-    run(&buf[..n]);
+    let n = printing::read_full(&rt, &mut buf);
+    run(&rt, &buf[..n]);
 }

@@ -10,14 +10,14 @@ use test_differences::difference::{Difference, Part};
 use test_inputs::arrays;
 
 // How many bytes were printed, and what differs in them.
-#[derive(Drop)]
+#[derive(Clone, Copy)]
 struct Printed {
     at: usize,
     difference: Difference,
 }
 
 // The state behind some calls, their attempts, whether values are left, and what they printed.
-#[derive(Drop)]
+#[derive(Clone, Copy)]
 struct Run {
     state: SearchState,
     attempts: u64,
@@ -82,7 +82,7 @@ fn behind(s: Step, printed: Printed, rises: Difference, attempts: u64) -> Run {
 }
 
 // A call, whose rises are expected to be those over its hits.
-#[derive(Drop)]
+#[derive(Clone, Copy)]
 struct Called {
     step: Step,
     difference: Difference,

@@ -1,7 +1,9 @@
 // A search that takes all 1,048,576 values that a search takes, by calls over one array of equal
 // values, over the set of the pattern of two equal values, all whose rises are 0; then no value
 // more, which ends, and one value more, which is refused under 9, whatever the arrays.
-ghost use Rattle.lists.specs.Prelude.{◌≤◌};
+#![tactic(auto)]
+
+ghost use Rattle.std.specs.Prelude.{◌≤◌};
 
 use answers::{Counts, SearchState, Streamed};
 use test_differences::difference::{Difference, Part};
@@ -9,7 +11,7 @@ use test_differences::{difference, expect};
 use test_inputs::arrays;
 
 // A state, and what differed on the way to it.
-#[derive(Drop)]
+#[derive(Clone, Copy)]
 struct Reached {
     state: SearchState,
     difference: Difference,
@@ -190,11 +192,12 @@ fn limit_over(set: &[u32], text: &[i32]) -> Difference {
     expect_limit(set, text, &automaton)
 }
 
-fn main() {
+fn main(rt: HostRuntime) {
     let t = test_tally::named(
+        &rt,
         test_tally::none(),
         b"1,048,576 values",
         limit_over(&[1, 2, 0, 2, 0, 1], &[-7; 4096]),
     );
-    test_tally::report(b"1,048,576 values: ", t);
+    test_tally::report(&rt, b"1,048,576 values: ", t);
 }

@@ -4,6 +4,8 @@
 // its automaton and all searches over it are refused under 15; once that is withdrawn, both
 // searches and the first hit are held against the plain search of the crate test_plain. A refused
 // call is expected to write nothing. The cases are made from seeds.
+#![tactic(auto)]
+
 mod cases;
 mod refused;
 mod searched;
@@ -58,20 +60,20 @@ fn set_of(way: usize, number: usize) -> Stored {
 }
 
 // So many sets of a way to make them.
-fn sets(group: &[u8], n: usize, way: usize) -> Tally {
+fn sets(rt: &HostRuntime, group: &[u8], n: usize, way: usize) -> Tally {
     let mut t = test_tally::none();
     let mut i: usize = 0;
     while i < n {
-        t = test_tally::numbered(t, group, i, cases::case(set_of(way, i)));
+        t = test_tally::numbered(rt, t, group, i, cases::case(set_of(way, i)));
         i += 1;
     }
-    test_tally::report(group, t);
+    test_tally::report(rt, group, t);
     t
 }
 
-fn main() {
-    let a = sets(b"1 to 8 patterns: ", 384, 0);
-    let b = sets(b"64 patterns: ", 128, 1);
-    let c = sets(b"two patterns of one value: ", 168, 2);
-    test_tally::report(b"in all ", test_tally::both(a, test_tally::both(b, c)));
+fn main(rt: HostRuntime) {
+    let a = sets(&rt, b"1 to 8 patterns: ", 384, 0);
+    let b = sets(&rt, b"64 patterns: ", 128, 1);
+    let c = sets(&rt, b"two patterns of one value: ", 168, 2);
+    test_tally::report(&rt, b"in all ", test_tally::both(a, test_tally::both(b, c)));
 }

@@ -1,11 +1,11 @@
 // Stored sets: their words, written by what document 01 says of a set.
-ghost use Rattle.lists.specs.Prelude.{◌≤◌};
+ghost use Rattle.std.specs.Prelude.{◌≤◌};
 
 use test_inputs::{arrays, texts};
 
 // A set of so many patterns of windows of a text, 64 at most. The patterns `one` and `other` have
 // one value, every other one 2 to 6, as the seed says.
-#[derive(Drop)]
+#[derive(Clone, Copy)]
 pub(crate) struct Stored {
     pub(crate) patterns: usize,
     pub(crate) one: usize,

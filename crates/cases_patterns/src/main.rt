@@ -11,6 +11,8 @@
 //   10 next list: length, room, the list; refusal, count, 1 where it is the last one, and every
 //       word of the array afterwards
 // An array that is only written holds 7s before the call.
+#![tactic(auto)]
+
 mod pattern_cases;
 
 use case_input::Outcome;
@@ -31,18 +33,18 @@ fn case(s: &[u8], entry: u64, at: usize) -> Outcome {
 
 // Runs the cases from the start of the input, and prints how many there are and how many of them
 // failed.
-fn run(s: &[u8]) {
+fn run(rt: &HostRuntime, s: &[u8]) {
     let mut c = case_input::first_case(s);
     while c.left > 0 {
-        c = case_input::next_case(s, c, case(s, c.first, c.at));
+        c = case_input::next_case(rt, s, c, case(s, c.first, c.at));
     }
     let t = c.tally;
-    test_tally::report(b"", t);
+    test_tally::report(rt, b"", t);
 }
 
 // Runs the cases of standard input.
-fn main() {
+fn main(rt: HostRuntime) {
     let mut buf = [0u8; 262144];
-    let n = io::read_full(0, &mut buf);
-    run(&buf[..n]);
+    let n = printing::read_full(&rt, &mut buf);
+    run(&rt, &buf[..n]);
 }

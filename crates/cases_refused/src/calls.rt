@@ -5,7 +5,7 @@ use test_differences::{difference, expect};
 use test_inputs::arrays;
 
 // The lengths of the two arrays that a call is lent.
-#[derive(Drop)]
+#[derive(Clone, Copy)]
 pub(crate) struct Room {
     pub(crate) hits: usize,
     pub(crate) rises: usize,

@@ -1,5 +1,5 @@
 // Calls at a state of a run that are expected to be refused.
-ghost use Rattle.lists.specs.Prelude.{◌≤◌};
+ghost use Rattle.std.specs.Prelude.{◌≤◌};
 
 use crate::calls;
 use crate::calls::Room;

@@ -1,6 +1,6 @@
 // Runs of two calls and more over texts of 600 values, whose hits and rises are held against the
 // plain search.
-ghost use Rattle.lists.specs.Prelude.{◌≤◌, ◌<◌};
+ghost use Rattle.std.specs.Prelude.{◌≤◌, ◌<◌};
 
 use answers::{SearchState, StreamAnswer};
 use test_differences::difference::{Difference, Part};
@@ -8,7 +8,7 @@ use test_differences::{difference, expect};
 use test_inputs::{arrays, texts};
 
 // The state behind a call, the hits that it wrote, and what differs.
-#[derive(Drop)]
+#[derive(Clone, Copy)]
 struct Step {
     state: SearchState,
     hits: usize,

@@ -5,7 +5,7 @@ use test_differences::{difference, expect};
 use test_inputs::{arrays, texts};
 
 // The state that a call hands back, and what differs in all that it wrote.
-#[derive(Drop)]
+#[derive(Clone, Copy)]
 struct Step {
     state: SearchState,
     difference: Difference,

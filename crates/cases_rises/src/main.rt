@@ -4,37 +4,39 @@
 // with a state that keeps another value where no minimum is open, which is accepted: the rises are
 // taken from what is kept; and calls with a first slot of 256 or more, which answer what the slot
 // modulo 256 does.
+#![tactic(auto)]
+
 mod cut_runs;
 mod kept;
 
 use test_tally::Tally;
 
 // Texts of seven kinds, each in eight ways to cut.
-fn cut_cases(group: &[u8], n: usize) -> Tally {
+fn cut_cases(rt: &HostRuntime, group: &[u8], n: usize) -> Tally {
     let mut t = test_tally::none();
     let mut i: usize = 0;
     while i < n {
-        t = test_tally::numbered(t, group, i, cut_runs::case(i));
+        t = test_tally::numbered(rt, t, group, i, cut_runs::case(i));
         i += 1;
     }
-    test_tally::report(group, t);
+    test_tally::report(rt, group, t);
     t
 }
 
 // States that keep other values.
-fn kept_cases(group: &[u8], n: usize) -> Tally {
+fn kept_cases(rt: &HostRuntime, group: &[u8], n: usize) -> Tally {
     let mut t = test_tally::none();
     let mut i: usize = 0;
     while i < n {
-        t = test_tally::numbered(t, group, i, kept::case(i));
+        t = test_tally::numbered(rt, t, group, i, kept::case(i));
         i += 1;
     }
-    test_tally::report(group, t);
+    test_tally::report(rt, group, t);
     t
 }
 
-fn main() {
-    let a = cut_cases(b"runs cut about 256 values: ", 56);
-    let b = kept_cases(b"other values kept: ", 120);
-    test_tally::report(b"in all ", test_tally::both(a, b));
+fn main(rt: HostRuntime) {
+    let a = cut_cases(&rt, b"runs cut about 256 values: ", 56);
+    let b = kept_cases(&rt, b"other values kept: ", 120);
+    test_tally::report(&rt, b"in all ", test_tally::both(a, b));
 }

@@ -11,9 +11,12 @@
 //   11 withdrawing a pattern: words of the array, the array, number; refusal, patterns, distances,
 //       every word afterwards
 // An array that is only written holds 7s before the call.
+#![tactic(auto)]
+
 mod set_cases;
 
 use case_input::Outcome;
+use std::alloc::AllocError;
 
 // The case of an entry that starts at a place of the input.
 fn case(s: &[u8], entry: u64, at: usize) -> Outcome {
@@ -34,18 +37,19 @@ fn case(s: &[u8], entry: u64, at: usize) -> Outcome {
 
 // Runs the cases from the start of the input, and prints how many there are and how many of them
 // failed.
-fn run(s: &[u8]) {
+fn run(rt: &HostRuntime, s: &[u8]) {
     let mut c = case_input::first_case(s);
     while c.left > 0 {
-        c = case_input::next_case(s, c, case(s, c.first, c.at));
+        c = case_input::next_case(rt, s, c, case(s, c.first, c.at));
     }
     let t = c.tally;
-    test_tally::report(b"", t);
+    test_tally::report(rt, b"", t);
 }
 
 // Runs the cases of standard input.
-fn main() {
-    let mut buf = [0u8; 524288];
-    let n = io::read_full(0, &mut buf);
-    run(&buf[..n]);
+fn main(rt: HostRuntime) -> Result<(), AllocError> {
+    let mut buf = vec![in rt.alloc(); 0u8; 524288]?;
+    let n = printing::read_full(&rt, &mut buf);
+    run(&rt, &buf[..n]);
+    Ok(())
 }

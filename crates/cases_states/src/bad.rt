@@ -4,6 +4,7 @@ use test_tally::Tally;
 
 // One case more: a state that is made of these.
 fn bad(
+    rt: &HostRuntime,
     t: Tally,
     name: &[u8],
     first: u32,
@@ -14,19 +15,25 @@ fn bad(
     v: [i32; 3],
 ) -> Tally {
     let s = given::state_at(first, taken, node, minima, p, v);
-    test_tally::named(t, name, given::refused(s))
+    test_tally::named(rt, t, name, given::refused(s))
 }
 
 // One case more: a state at the root with no minimum, which keeps a value for a place.
-fn keeps(t: Tally, name: &[u8], taken: u32, place: u32, value: i32) -> Tally {
-    test_tally::named(t, name, given::refused(given::kept_at(taken, place, value)))
+fn keeps(rt: &HostRuntime, t: Tally, name: &[u8], taken: u32, place: u32, value: i32) -> Tally {
+    test_tally::named(
+        rt,
+        t,
+        name,
+        given::refused(given::kept_at(taken, place, value)),
+    )
 }
 
 // Falling values; places that do not rise.
-fn disordered(before: Tally) -> Tally {
+fn disordered(rt: &HostRuntime, before: Tally) -> Tally {
     let mut t = before;
-    t = bad(t, b"falling values", 0, 3, 0, 3, [0, 1, 2], [1, 3, 2]);
+    t = bad(rt, t, b"falling values", 0, 3, 0, 3, [0, 1, 2], [1, 3, 2]);
     t = bad(
+        rt,
         t,
         b"falling values over the end of the ring",
         255,
@@ -37,6 +44,7 @@ fn disordered(before: Tally) -> Tally {
         [3, 1, 2],
     );
     t = bad(
+        rt,
         t,
         b"the lowest value of all as the last one",
         0,
@@ -46,9 +54,10 @@ fn disordered(before: Tally) -> Tally {
         [0, 1, 2],
         [1, 2, -2147483648],
     );
-    t = bad(t, b"equal places", 0, 3, 0, 3, [0, 2, 2], [1, 2, 2]);
-    t = bad(t, b"falling places", 254, 3, 0, 3, [1, 0, 2], [1, 2, 3]);
+    t = bad(rt, t, b"equal places", 0, 3, 0, 3, [0, 2, 2], [1, 2, 2]);
+    t = bad(rt, t, b"falling places", 254, 3, 0, 3, [1, 0, 2], [1, 2, 3]);
     bad(
+        rt,
         t,
         b"more minima than slots",
         0,
@@ -62,9 +71,10 @@ fn disordered(before: Tally) -> Tally {
 
 // A last place that is not the last taken; a first one that is too far back; minima with nothing
 // taken.
-fn misplaced(before: Tally) -> Tally {
+fn misplaced(rt: &HostRuntime, before: Tally) -> Tally {
     let mut t = before;
     t = bad(
+        rt,
         t,
         b"a last place before the last taken",
         0,
@@ -75,6 +85,7 @@ fn misplaced(before: Tally) -> Tally {
         [1, 2, 3],
     );
     t = bad(
+        rt,
         t,
         b"a last place behind the last taken",
         0,
@@ -85,6 +96,7 @@ fn misplaced(before: Tally) -> Tally {
         [-2, -1, 0],
     );
     t = bad(
+        rt,
         t,
         b"a first place too far back",
         254,
@@ -95,6 +107,7 @@ fn misplaced(before: Tally) -> Tally {
         [7, 7, 0],
     );
     t = bad(
+        rt,
         t,
         b"a last place before the last taken, at the root",
         0,
@@ -105,6 +118,7 @@ fn misplaced(before: Tally) -> Tally {
         [1, 0, 0],
     );
     bad(
+        rt,
         t,
         b"a minimum with nothing taken",
         0,
@@ -117,9 +131,10 @@ fn misplaced(before: Tally) -> Tally {
 }
 
 // A node other than the root, of each depth, and no minimum.
-fn without_minima(before: Tally) -> Tally {
+fn without_minima(rt: &HostRuntime, before: Tally) -> Tally {
     let mut t = before;
     t = bad(
+        rt,
         t,
         b"no minimum at node 1, one value taken",
         0,
@@ -130,6 +145,7 @@ fn without_minima(before: Tally) -> Tally {
         [0, 0, 0],
     );
     t = bad(
+        rt,
         t,
         b"no minimum at node 1, three values taken",
         0,
@@ -140,6 +156,7 @@ fn without_minima(before: Tally) -> Tally {
         [1, 2, 3],
     );
     t = bad(
+        rt,
         t,
         b"no minimum at node 2",
         255,
@@ -149,8 +166,19 @@ fn without_minima(before: Tally) -> Tally {
         [298, 299, 0],
         [1, 2, 0],
     );
-    t = bad(t, b"no minimum at node 3", 0, 3, 3, 0, [0, 1, 2], [1, 2, 3]);
     t = bad(
+        rt,
+        t,
+        b"no minimum at node 3",
+        0,
+        3,
+        3,
+        0,
+        [0, 1, 2],
+        [1, 2, 3],
+    );
+    t = bad(
+        rt,
         t,
         b"no minimum at the node behind the last",
         0,
@@ -161,6 +189,7 @@ fn without_minima(before: Tally) -> Tally {
         [1, 2, 3],
     );
     bad(
+        rt,
         t,
         b"no minimum at the root, one value too many taken",
         0,
@@ -174,9 +203,10 @@ fn without_minima(before: Tally) -> Tally {
 
 // A node outside of the automaton; one deeper than the values taken; more values taken than a
 // search takes.
-fn outside(before: Tally) -> Tally {
+fn outside(rt: &HostRuntime, before: Tally) -> Tally {
     let mut t = before;
     t = bad(
+        rt,
         t,
         b"the node behind the last",
         0,
@@ -187,6 +217,7 @@ fn outside(before: Tally) -> Tally {
         [1, 2, 3],
     );
     t = bad(
+        rt,
         t,
         b"the highest node",
         0,
@@ -197,6 +228,7 @@ fn outside(before: Tally) -> Tally {
         [1, 2, 3],
     );
     t = bad(
+        rt,
         t,
         b"a node deeper than the values taken",
         0,
@@ -207,6 +239,7 @@ fn outside(before: Tally) -> Tally {
         [1, 0, 0],
     );
     t = bad(
+        rt,
         t,
         b"a node below the root with nothing taken",
         0,
@@ -217,6 +250,7 @@ fn outside(before: Tally) -> Tally {
         [0, 0, 0],
     );
     t = bad(
+        rt,
         t,
         b"one value too many taken",
         0,
@@ -227,6 +261,7 @@ fn outside(before: Tally) -> Tally {
         [1, 0, 0],
     );
     bad(
+        rt,
         t,
         b"the most values taken",
         0,
@@ -241,9 +276,10 @@ fn outside(before: Tally) -> Tally {
 // ---- the values kept
 
 // One case more: a state of three open minima that keeps another value for a place.
-fn other_kept(t: Tally, name: &[u8], place: u32, value: i32) -> Tally {
+fn other_kept(rt: &HostRuntime, t: Tally, name: &[u8], place: u32, value: i32) -> Tally {
     let s = given::state_at(250, 3, 3, 3, [0, 1, 2], [1, 2, 3]);
     test_tally::named(
+        rt,
         t,
         name,
         given::refused(test_states::keeping(s, place, value)),
@@ -251,46 +287,57 @@ fn other_kept(t: Tally, name: &[u8], place: u32, value: i32) -> Tally {
 }
 
 // An open minimum has another value than the one kept for its place.
-fn not_kept(before: Tally) -> Tally {
+fn not_kept(rt: &HostRuntime, before: Tally) -> Tally {
     let mut t = before;
-    t = other_kept(t, b"another value kept for the first minimum", 0, 0);
-    t = other_kept(t, b"another value kept for the second minimum", 1, 3);
-    other_kept(t, b"a gap kept for the last minimum", 2, -2147483648)
+    t = other_kept(rt, t, b"another value kept for the first minimum", 0, 0);
+    t = other_kept(rt, t, b"another value kept for the second minimum", 1, 3);
+    other_kept(rt, t, b"a gap kept for the last minimum", 2, -2147483648)
 }
 
 // The same with more than 256 values taken.
-fn other_kept_later(t: Tally, name: &[u8], place: u32, value: i32) -> Tally {
+fn other_kept_later(rt: &HostRuntime, t: Tally, name: &[u8], place: u32, value: i32) -> Tally {
     let s = given::state_at(254, 300, 2, 2, [44, 299, 0], [3, 7, 0]);
     test_tally::named(
+        rt,
         t,
         name,
         given::refused(test_states::keeping(s, place, value)),
     )
 }
 
-fn not_kept_later(before: Tally) -> Tally {
+fn not_kept_later(rt: &HostRuntime, before: Tally) -> Tally {
     let mut t = before;
     t = other_kept_later(
+        rt,
         t,
         b"another value kept for a minimum as far back as can be",
         44,
         4,
     );
-    other_kept_later(t, b"another value kept for the last of 300 values", 299, 0)
+    other_kept_later(
+        rt,
+        t,
+        b"another value kept for the last of 300 values",
+        299,
+        0,
+    )
 }
 
 // A slot that is not yet filled holds something else than 0.
-fn filled_too_soon(before: Tally) -> Tally {
+fn filled_too_soon(rt: &HostRuntime, before: Tally) -> Tally {
     let mut t = before;
-    t = keeps(t, b"a value kept with nothing taken", 0, 0, 1);
-    t = keeps(t, b"a value kept for the next place", 3, 3, -1);
-    t = keeps(t, b"a gap kept in the last slot", 3, 255, -2147483648);
-    keeps(t, b"the last slot of 255 values", 255, 255, 1)
+    t = keeps(rt, t, b"a value kept with nothing taken", 0, 0, 1);
+    t = keeps(rt, t, b"a value kept for the next place", 3, 3, -1);
+    t = keeps(rt, t, b"a gap kept in the last slot", 3, 255, -2147483648);
+    keeps(rt, t, b"the last slot of 255 values", 255, 255, 1)
 }
 
-pub(crate) fn states(group: &[u8]) -> Tally {
-    let t = without_minima(outside(misplaced(disordered(test_tally::none()))));
-    let u = filled_too_soon(not_kept_later(not_kept(t)));
-    test_tally::report(group, u);
+pub(crate) fn states(rt: &HostRuntime, group: &[u8]) -> Tally {
+    let t = without_minima(
+        rt,
+        outside(rt, misplaced(rt, disordered(rt, test_tally::none()))),
+    );
+    let u = filled_too_soon(rt, not_kept_later(rt, not_kept(rt, t)));
+    test_tally::report(rt, group, u);
     u
 }

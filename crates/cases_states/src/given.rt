@@ -1,6 +1,6 @@
 // States that are given to a call, and what the call is expected to answer. The set has one pattern
 // of three rising values, so its automaton has the nodes 0 to 3, of depths 0 to 3.
-ghost use Rattle.lists.specs.Prelude.{◌<◌};
+ghost use Rattle.std.specs.Prelude.{◌<◌};
 
 use answers::{Counts, SearchState, StreamAnswer, Streamed};
 use test_differences::difference::Difference;

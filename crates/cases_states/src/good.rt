@@ -16,6 +16,7 @@ fn new_search() -> Difference {
 
 // One case more: a state that is made of these.
 fn good(
+    rt: &HostRuntime,
     t: Tally,
     name: &[u8],
     first: u32,
@@ -26,12 +27,13 @@ fn good(
     v: [i32; 3],
 ) -> Tally {
     let s = given::state_at(first, taken, node, minima, p, v);
-    test_tally::named(t, name, given::accepted(s))
+    test_tally::named(rt, t, name, given::accepted(s))
 }
 
 // One case more: a state at the root with no minimum, which keeps a value for a place.
-fn keeps(t: Tally, name: &[u8], taken: u32, place: u32, value: i32) -> Tally {
+fn keeps(rt: &HostRuntime, t: Tally, name: &[u8], taken: u32, place: u32, value: i32) -> Tally {
     test_tally::named(
+        rt,
         t,
         name,
         given::accepted(given::kept_at(taken, place, value)),
@@ -39,10 +41,21 @@ fn keeps(t: Tally, name: &[u8], taken: u32, place: u32, value: i32) -> Tally {
 }
 
 // Three minima.
-fn three(before: Tally) -> Tally {
+fn three(rt: &HostRuntime, before: Tally) -> Tally {
     let mut t = before;
-    t = good(t, b"three rising minima", 0, 3, 3, 3, [0, 1, 2], [1, 2, 3]);
     t = good(
+        rt,
+        t,
+        b"three rising minima",
+        0,
+        3,
+        3,
+        3,
+        [0, 1, 2],
+        [1, 2, 3],
+    );
+    t = good(
+        rt,
         t,
         b"three equal minima over the end of the ring",
         255,
@@ -53,6 +66,7 @@ fn three(before: Tally) -> Tally {
         [5, 5, 5],
     );
     good(
+        rt,
         t,
         b"minima of the lowest value of all",
         254,
@@ -65,9 +79,10 @@ fn three(before: Tally) -> Tally {
 }
 
 // One minimum, or two.
-fn fewer(before: Tally) -> Tally {
+fn fewer(rt: &HostRuntime, before: Tally) -> Tally {
     let mut t = before;
     t = good(
+        rt,
         t,
         b"a minimum as far back as can be",
         254,
@@ -78,6 +93,7 @@ fn fewer(before: Tally) -> Tally {
         [-2147483648, 7, 0],
     );
     t = good(
+        rt,
         t,
         b"all values taken",
         7,
@@ -88,6 +104,7 @@ fn fewer(before: Tally) -> Tally {
         [1, 0, 0],
     );
     t = good(
+        rt,
         t,
         b"one value taken",
         9,
@@ -97,13 +114,24 @@ fn fewer(before: Tally) -> Tally {
         [0, 0, 0],
         [2147483647, 0, 0],
     );
-    good(t, b"minima at the root", 0, 3, 0, 1, [2, 0, 0], [1, 0, 0])
+    good(
+        rt,
+        t,
+        b"minima at the root",
+        0,
+        3,
+        0,
+        1,
+        [2, 0, 0],
+        [1, 0, 0],
+    )
 }
 
 // Values taken, the root, and no open minimum, whatever the slots of the ring hold.
-fn after_gaps(before: Tally) -> Tally {
+fn after_gaps(rt: &HostRuntime, before: Tally) -> Tally {
     let mut t = before;
     t = good(
+        rt,
         t,
         b"no minimum at the root, one value taken",
         0,
@@ -114,6 +142,7 @@ fn after_gaps(before: Tally) -> Tally {
         [0, 0, 0],
     );
     t = good(
+        rt,
         t,
         b"no minimum at the root, three values taken",
         0,
@@ -124,6 +153,7 @@ fn after_gaps(before: Tally) -> Tally {
         [1, 2, 3],
     );
     t = good(
+        rt,
         t,
         b"no minimum at the root, and slots that are no minima",
         255,
@@ -134,6 +164,7 @@ fn after_gaps(before: Tally) -> Tally {
         [3, 1, 2],
     );
     good(
+        rt,
         t,
         b"no minimum at the root, all values taken",
         3,
@@ -146,11 +177,12 @@ fn after_gaps(before: Tally) -> Tally {
 }
 
 // A first slot of 256 or more counts modulo 256.
-fn first_slots(before: Tally) -> Tally {
+fn first_slots(rt: &HostRuntime, before: Tally) -> Tally {
     let mut t = before;
-    t = good(t, b"first slot 256", 256, 3, 3, 3, [0, 1, 2], [1, 2, 3]);
-    t = good(t, b"first slot 511", 511, 3, 3, 3, [0, 1, 2], [1, 2, 3]);
+    t = good(rt, t, b"first slot 256", 256, 3, 3, 3, [0, 1, 2], [1, 2, 3]);
+    t = good(rt, t, b"first slot 511", 511, 3, 3, 3, [0, 1, 2], [1, 2, 3]);
     t = good(
+        rt,
         t,
         b"first slot 4294967295",
         4294967295,
@@ -161,6 +193,7 @@ fn first_slots(before: Tally) -> Tally {
         [3, 7, 0],
     );
     good(
+        rt,
         t,
         b"first slot 4294967040 and no minimum",
         4294967040,
@@ -173,19 +206,19 @@ fn first_slots(before: Tally) -> Tally {
 }
 
 // Any value may be kept where no open minimum stands.
-fn kept(before: Tally) -> Tally {
+fn kept(rt: &HostRuntime, before: Tally) -> Tally {
     let mut t = before;
-    t = keeps(t, b"a value kept", 3, 2, 77);
-    t = keeps(t, b"a gap kept", 3, 0, -2147483648);
-    t = keeps(t, b"the last but one slot of 255 values", 255, 254, 1);
-    t = keeps(t, b"the last slot of 256 values", 256, 255, 1);
-    keeps(t, b"a slot of 257 values", 257, 255, 1)
+    t = keeps(rt, t, b"a value kept", 3, 2, 77);
+    t = keeps(rt, t, b"a gap kept", 3, 0, -2147483648);
+    t = keeps(rt, t, b"the last but one slot of 255 values", 255, 254, 1);
+    t = keeps(rt, t, b"the last slot of 256 values", 256, 255, 1);
+    keeps(rt, t, b"a slot of 257 values", 257, 255, 1)
 }
 
-pub(crate) fn states(group: &[u8]) -> Tally {
-    let t = test_tally::named(test_tally::none(), b"a new search", new_search());
-    let u = kept(first_slots(after_gaps(fewer(three(t)))));
-    test_tally::report(group, u);
+pub(crate) fn states(rt: &HostRuntime, group: &[u8]) -> Tally {
+    let t = test_tally::named(rt, test_tally::none(), b"a new search", new_search());
+    let u = kept(rt, first_slots(rt, after_gaps(rt, fewer(rt, three(rt, t)))));
+    test_tally::report(rt, group, u);
     u
 }
 
@@ -203,15 +236,25 @@ fn two_taken(taken: u32, last: i32, first: i32) -> SearchState {
 }
 
 // One case more: a value behind the two, and the rise over the three.
-fn rises(t: Tally, name: &[u8], taken: u32, last: i32, first: i32, value: i32, rise: i32) -> Tally {
+fn rises(
+    rt: &HostRuntime,
+    t: Tally,
+    name: &[u8],
+    taken: u32,
+    last: i32,
+    first: i32,
+    value: i32,
+    rise: i32,
+) -> Tally {
     let s = two_taken(taken, last, first);
-    test_tally::named(t, name, given::hit(s, value, rise))
+    test_tally::named(rt, t, name, given::hit(s, value, rise))
 }
 
 // The rise is taken from the value kept, which no run has there.
-fn clamped(before: Tally) -> Tally {
+fn clamped(rt: &HostRuntime, before: Tally) -> Tally {
     let mut t = before;
     t = rises(
+        rt,
         t,
         b"a gap as the first value",
         3,
@@ -221,6 +264,7 @@ fn clamped(before: Tally) -> Tally {
         2147483647,
     );
     t = rises(
+        rt,
         t,
         b"the highest value as the first",
         3,
@@ -230,6 +274,7 @@ fn clamped(before: Tally) -> Tally {
         -2147483648,
     );
     rises(
+        rt,
         t,
         b"the lowest rise of all",
         3,
@@ -240,16 +285,16 @@ fn clamped(before: Tally) -> Tally {
     )
 }
 
-fn from_kept(before: Tally) -> Tally {
+fn from_kept(rt: &HostRuntime, before: Tally) -> Tally {
     let mut t = before;
-    t = rises(t, b"three values taken", 3, 3, 1000, 5, -995);
-    t = rises(t, b"256 values taken", 256, 3, 1000, 5, -995);
-    t = rises(t, b"257 values taken", 257, 3, -1000, 5, 1005);
-    rises(t, b"all values taken but one", 1048575, 3, 4, 5, 1)
+    t = rises(rt, t, b"three values taken", 3, 3, 1000, 5, -995);
+    t = rises(rt, t, b"256 values taken", 256, 3, 1000, 5, -995);
+    t = rises(rt, t, b"257 values taken", 257, 3, -1000, 5, 1005);
+    rises(rt, t, b"all values taken but one", 1048575, 3, 4, 5, 1)
 }
 
-pub(crate) fn hits(group: &[u8]) -> Tally {
-    let t = clamped(from_kept(test_tally::none()));
-    test_tally::report(group, t);
+pub(crate) fn hits(rt: &HostRuntime, group: &[u8]) -> Tally {
+    let t = clamped(rt, from_kept(rt, test_tally::none()));
+    test_tally::report(rt, group, t);
     t
 }

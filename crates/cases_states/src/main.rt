@@ -3,13 +3,15 @@
 // calls with none and arrays that are too short; and states just beside them, which are accepted.
 // Where a state is accepted that no run reaches, the rise over a hit is taken from what it keeps.
 // Documents 01, and 02, 2.2 and 2.7.
+#![tactic(auto)]
+
 mod bad;
 mod given;
 mod good;
 
-fn main() {
-    let a = good::states(b"accepted: ");
-    let b = bad::states(b"refused: ");
-    let c = good::hits(b"rises from values kept: ");
-    test_tally::report(b"in all ", test_tally::both(a, test_tally::both(b, c)));
+fn main(rt: HostRuntime) {
+    let a = good::states(&rt, b"accepted: ");
+    let b = bad::states(&rt, b"refused: ");
+    let c = good::hits(&rt, b"rises from values kept: ");
+    test_tally::report(&rt, b"in all ", test_tally::both(a, test_tally::both(b, c)));
 }

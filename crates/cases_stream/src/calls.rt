@@ -1,5 +1,5 @@
 // One call, held against the reference.
-ghost use Rattle.lists.specs.Prelude.{◌<◌};
+ghost use Rattle.std.specs.Prelude.{◌<◌};
 
 use answers::{Counts, SearchState, Streamed};
 use test_differences::difference::Difference;
@@ -7,14 +7,14 @@ use test_differences::{difference, expect};
 use test_inputs::arrays;
 
 // The state that a call hands back, and what differs in all that it answered.
-#[derive(Drop)]
+#[derive(Clone, Copy)]
 pub struct Step {
     pub state: SearchState,
     pub difference: Difference,
 }
 
 // What a call must do: take the values before a place, write so many words, make so many attempts.
-#[derive(Drop)]
+#[derive(Clone, Copy)]
 struct Expected {
     to: usize,
     words: usize,
@@ -22,7 +22,7 @@ struct Expected {
 }
 
 // What a call answered, and what differs in the rises that it wrote.
-#[derive(Drop)]
+#[derive(Clone, Copy)]
 struct Called {
     streamed: Streamed,
     difference: Difference,

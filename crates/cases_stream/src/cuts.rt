@@ -1,5 +1,5 @@
 // How a run is cut into calls.
-ghost use Rattle.lists.specs.Prelude.{◌≤◌, ◌<◌};
+ghost use Rattle.std.specs.Prelude.{◌≤◌, ◌<◌};
 
 use test_inputs::texts;
 

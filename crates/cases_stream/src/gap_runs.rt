@@ -1,5 +1,5 @@
 // Runs over texts with gaps, which are cut into calls about the gaps.
-ghost use Rattle.lists.specs.Prelude.{◌≤◌};
+ghost use Rattle.std.specs.Prelude.{◌≤◌};
 
 use crate::run_cases;
 use test_differences::difference::Difference;

@@ -3,6 +3,8 @@
 // hits and rises, and after every call the node, the open minima and the values kept of the state
 // that is handed back; behind gaps only, the whole state. Texts with gaps are cut into calls about
 // the gaps.
+#![tactic(auto)]
+
 mod calls;
 mod cuts;
 mod gap_runs;
@@ -10,59 +12,61 @@ mod run_cases;
 
 use test_tally::Tally;
 
-fn random_cases(group: &[u8], n: usize) -> Tally {
+fn random_cases(rt: &HostRuntime, group: &[u8], n: usize) -> Tally {
     let mut t = test_tally::none();
     let mut i: usize = 0;
     while i < n {
-        t = test_tally::numbered(t, group, i, run_cases::random_case(i));
+        t = test_tally::numbered(rt, t, group, i, run_cases::random_case(i));
         i += 1;
     }
-    test_tally::report(group, t);
+    test_tally::report(rt, group, t);
     t
 }
 
 // Texts with scattered gaps.
-fn scattered_gaps(group: &[u8], n: usize) -> Tally {
+fn scattered_gaps(rt: &HostRuntime, group: &[u8], n: usize) -> Tally {
     let mut t = test_tally::none();
     let mut i: usize = 0;
     while i < n {
-        t = test_tally::numbered(t, group, i, gap_runs::scattered_case(i));
+        t = test_tally::numbered(rt, t, group, i, gap_runs::scattered_case(i));
         i += 1;
     }
-    test_tally::report(group, t);
+    test_tally::report(rt, group, t);
     t
 }
 
 // Texts with gaps at a distance from each other.
-fn gaps_apart(group: &[u8], n: usize) -> Tally {
+fn gaps_apart(rt: &HostRuntime, group: &[u8], n: usize) -> Tally {
     let mut t = test_tally::none();
     let mut i: usize = 0;
     while i < n {
-        t = test_tally::numbered(t, group, i, gap_runs::apart_case(i));
+        t = test_tally::numbered(rt, t, group, i, gap_runs::apart_case(i));
         i += 1;
     }
-    test_tally::report(group, t);
+    test_tally::report(rt, group, t);
     t
 }
 
-fn cut_cases(group: &[u8]) -> Tally {
+fn cut_cases(rt: &HostRuntime, group: &[u8]) -> Tally {
     let flat = test_tally::named(
+        rt,
         test_tally::none(),
         b"600 equal values",
         run_cases::cut_case(0),
     );
-    let up = test_tally::named(flat, b"600 rising values", run_cases::cut_case(1));
-    let t = test_tally::named(up, b"600 falling values", run_cases::cut_case(2));
-    test_tally::report(group, t);
+    let up = test_tally::named(rt, flat, b"600 rising values", run_cases::cut_case(1));
+    let t = test_tally::named(rt, up, b"600 falling values", run_cases::cut_case(2));
+    test_tally::report(rt, group, t);
     t
 }
 
-fn main() {
-    let a = random_cases(b"random runs: ", 1000);
-    let b = cut_cases(b"600 values: ");
-    let c = scattered_gaps(b"random runs with gaps: ", 500);
-    let d = gaps_apart(b"gaps at distances: ", 128);
+fn main(rt: HostRuntime) {
+    let a = random_cases(&rt, b"random runs: ", 1000);
+    let b = cut_cases(&rt, b"600 values: ");
+    let c = scattered_gaps(&rt, b"random runs with gaps: ", 500);
+    let d = gaps_apart(&rt, b"gaps at distances: ", 128);
     test_tally::report(
+        &rt,
         b"in all ",
         test_tally::both(test_tally::both(a, b), test_tally::both(c, d)),
     );

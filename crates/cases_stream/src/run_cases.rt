@@ -1,5 +1,5 @@
 // Runs: lists of calls from a new state.
-ghost use Rattle.lists.specs.Prelude.{◌<◌};
+ghost use Rattle.std.specs.Prelude.{◌<◌};
 
 use crate::{calls, cuts};
 use answers::SearchState;

@@ -2,7 +2,7 @@
 // 4,200 words that the set array must have. Behind them it has a table: a row of 257 words for each
 // of 64 patterns, the number of its distances and the distances. After each step the words of the
 // set are written anew from the table.
-ghost use Rattle.lists.specs.Prelude.{◌≤◌, ◌<◌};
+ghost use Rattle.std.specs.Prelude.{◌≤◌, ◌<◌};
 
 use test_inputs::arrays;
 

@@ -137,23 +137,23 @@ fn begin(set: &mut [u32], words: &mut [u32], stored: usize) {
 }
 
 // How many patterns of one value a sequence begins with: the first eight with the empty set.
-fn stored_patterns(number: usize) -> usize {
+fn stored_patterns(rt: &HostRuntime, number: usize) -> usize {
     if number < 8 { 0 } else { 20 }
 }
 
 // 300 steps from a set on, in an array that has words behind the largest set; the number of the
 // first one gives them.
-pub(crate) fn sequence(t: Tally, group: &[u8], first: usize) -> Tally {
+pub(crate) fn sequence(rt: &HostRuntime, t: Tally, group: &[u8], first: usize) -> Tally {
     let mut set = [arrays::BEFORE; 4200];
     let mut words = [arrays::BEFORE; 20648];
     let mut tally = t;
     let mut s = texts::next(first);
     let mut i: usize = 0;
-    begin(&mut set, &mut words, stored_patterns(first / 300));
+    begin(&mut set, &mut words, stored_patterns(rt, first / 300));
     while i < 300 {
         s = texts::next(s);
         let d = take_step(&mut set, &mut words, first / 300, i, s);
-        tally = test_tally::numbered(tally, group, std::num::wrapping_add_usize(first, i), d);
+        tally = test_tally::numbered(rt, tally, group, std::num::wrapping_add_usize(first, i), d);
         i += 1;
     }
     tally

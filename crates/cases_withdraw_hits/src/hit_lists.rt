@@ -1,5 +1,5 @@
 // The list of hits that is expected once a pattern is withdrawn, made from the one before.
-ghost use Rattle.lists.specs.Prelude.{◌+◌, ◌≤◌};
+ghost use Rattle.std.specs.Prelude.{◌+◌, ◌≤◌};
 
 use answers::Filtered;
 use test_inputs::arrays;

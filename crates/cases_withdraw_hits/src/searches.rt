@@ -1,6 +1,7 @@
 // Searches over a set, held against the list of hits that is expected. Where a refusal is expected,
 // its number is given, else 0.
-ghost use Rattle.lists.specs.Prelude.{◌≤◌, length};
+ghost use Rattle.std.specs.Prelude.{◌≤◌};
+ghost use Rattle.lists.specs.Prelude.{length};
 
 use answers::{SearchState, StreamAnswer};
 use test_differences::difference::Difference;
@@ -33,7 +34,7 @@ pub(crate) fn expect_filtered(
 // ---- the stream search
 
 // The state behind a call, how many hits it wrote, and what differs in its refusal and its rises.
-#[derive(Drop)]
+#[derive(Clone, Copy)]
 struct Called {
     state: SearchState,
     hits: usize,

@@ -2,11 +2,13 @@
 // the crate finder: exact answers, and every word that is lent. The worked cases on one pattern,
 // the lengths 0, 1, 256 and 257, codes of 20 and 21 distances, and sets of 64 and 65 patterns are
 // among the cases of cases_patterns and cases_sets.
+#![tactic(auto)]
+
 mod searches;
 mod sets;
 
-fn main() {
-    let a = sets::all_cases(b"sets: ");
-    let b = searches::all_cases(b"searches: ");
-    test_tally::report(b"in all ", test_tally::both(a, b));
+fn main(rt: HostRuntime) {
+    let a = sets::all_cases(&rt, b"sets: ");
+    let b = searches::all_cases(&rt, b"searches: ");
+    test_tally::report(&rt, b"in all ", test_tally::both(a, b));
 }

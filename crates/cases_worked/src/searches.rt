@@ -269,30 +269,35 @@ fn both_rises() -> Difference {
     )
 }
 
-fn starred(t: Tally) -> Tally {
-    let u = test_tally::named(t, b"first starred text", first_starred());
-    test_tally::named(u, b"second starred text", second_starred())
+fn starred(rt: &HostRuntime, t: Tally) -> Tally {
+    let u = test_tally::named(rt, t, b"first starred text", first_starred());
+    test_tally::named(rt, u, b"second starred text", second_starred())
 }
 
-fn parting(t: Tally) -> Tally {
-    let a = test_tally::named(t, b"equal values", equal_values());
-    let b = test_tally::named(a, b"overlapping hits", overlapping());
-    let c = test_tally::named(b, b"a shorter pattern too", shorter_too());
-    let d = test_tally::named(c, b"a distance out of the window", cut_distance());
-    test_tally::named(d, b"equal fingerprints", equal_fingerprints())
+fn parting(rt: &HostRuntime, t: Tally) -> Tally {
+    let a = test_tally::named(rt, t, b"equal values", equal_values());
+    let b = test_tally::named(rt, a, b"overlapping hits", overlapping());
+    let c = test_tally::named(rt, b, b"a shorter pattern too", shorter_too());
+    let d = test_tally::named(rt, c, b"a distance out of the window", cut_distance());
+    test_tally::named(rt, d, b"equal fingerprints", equal_fingerprints())
 }
 
-fn gaps(t: Tally) -> Tally {
-    let a = test_tally::named(t, b"a gap between", gap_between());
-    let b = test_tally::named(a, b"a gap is no minimum", gap_no_minimum());
-    let c = test_tally::named(b, b"a gap before a fingerprint", gap_before_fingerprint());
-    test_tally::named(c, b"gaps and the lowest sample", gaps_and_lowest())
+fn gaps(rt: &HostRuntime, t: Tally) -> Tally {
+    let a = test_tally::named(rt, t, b"a gap between", gap_between());
+    let b = test_tally::named(rt, a, b"a gap is no minimum", gap_no_minimum());
+    let c = test_tally::named(
+        rt,
+        b,
+        b"a gap before a fingerprint",
+        gap_before_fingerprint(),
+    );
+    test_tally::named(rt, c, b"gaps and the lowest sample", gaps_and_lowest())
 }
 
-fn clamped(t: Tally) -> Tally {
-    let a = test_tally::named(t, b"rises about the highest number", highest_rises());
-    let b = test_tally::named(a, b"rises about the lowest number", lowest_rises());
-    test_tally::named(b, b"rises past both ends", both_rises())
+fn clamped(rt: &HostRuntime, t: Tally) -> Tally {
+    let a = test_tally::named(rt, t, b"rises about the highest number", highest_rises());
+    let b = test_tally::named(rt, a, b"rises about the lowest number", lowest_rises());
+    test_tally::named(rt, b, b"rises past both ends", both_rises())
 }
 
 fn three_found(set: &[u32], automaton: &[u32]) -> Difference {
@@ -312,12 +317,12 @@ fn none_found(set: &[u32], automaton: &[u32]) -> Difference {
 }
 
 // The three patterns over a text, and over no values.
-fn three_over(t: Tally, set: &[u32], automaton: &[u32]) -> Tally {
-    let a = test_tally::named(t, b"three patterns", three_found(set, automaton));
-    test_tally::named(a, b"no values", none_found(set, automaton))
+fn three_over(rt: &HostRuntime, t: Tally, set: &[u32], automaton: &[u32]) -> Tally {
+    let a = test_tally::named(rt, t, b"three patterns", three_found(set, automaton));
+    test_tally::named(rt, a, b"no values", none_found(set, automaton))
 }
 
-fn three(t: Tally) -> Tally {
+fn three(rt: &HostRuntime, t: Tally) -> Tally {
     let mut set = [0u32; 20];
     let mut automaton = [0u32; 240];
     make(
@@ -327,11 +332,14 @@ fn three(t: Tally) -> Tally {
         &[3, 1, 4, 2],
         &[1, 2, 3, 5, 4],
     );
-    three_over(t, &set, &automaton)
+    three_over(rt, t, &set, &automaton)
 }
 
-pub(crate) fn all_cases(group: &[u8]) -> Tally {
-    let t = three(clamped(gaps(parting(starred(test_tally::none())))));
-    test_tally::report(group, t);
+pub(crate) fn all_cases(rt: &HostRuntime, group: &[u8]) -> Tally {
+    let t = three(
+        rt,
+        clamped(rt, gaps(rt, parting(rt, starred(rt, test_tally::none())))),
+    );
+    test_tally::report(rt, group, t);
     t
 }

@@ -58,7 +58,7 @@ fn expect_one_refused(set: &mut [u32]) -> Difference {
 }
 
 // A stored set that holds a pattern of one value is good, and its automaton is refused under 15.
-fn expect_stored(set: &[u32]) -> Difference {
+fn expect_stored(rt: &HostRuntime, set: &[u32]) -> Difference {
     let mut automaton = [0u32; 64];
     let size = expect::set_size(finder::check_set(set), 0, 2, 3);
     difference::first(
@@ -67,18 +67,24 @@ fn expect_stored(set: &[u32]) -> Difference {
     )
 }
 
-pub(crate) fn all_cases(group: &[u8]) -> Tally {
+pub(crate) fn all_cases(rt: &HostRuntime, group: &[u8]) -> Tally {
     let mut set = [0u32; 24];
     let a = three_in(&mut set);
     let b = difference::first(a, expect_set(&set));
-    let t = test_tally::named(test_tally::none(), b"set of three patterns", b);
-    let u = test_tally::named(t, b"automaton of three patterns", expect_nodes(&set));
-    let v = test_tally::named(u, b"a pattern of one value", expect_one_refused(&mut set));
+    let t = test_tally::named(rt, test_tally::none(), b"set of three patterns", b);
+    let u = test_tally::named(rt, t, b"automaton of three patterns", expect_nodes(&set));
+    let v = test_tally::named(
+        rt,
+        u,
+        b"a pattern of one value",
+        expect_one_refused(&mut set),
+    );
     let w = test_tally::named(
+        rt,
         v,
         b"a stored pattern of one value",
-        expect_stored(&[2, 3, 0, 2, 3, 0, 1, 0]),
+        expect_stored(rt, &[2, 3, 0, 2, 3, 0, 1, 0]),
     );
-    test_tally::report(group, w);
+    test_tally::report(rt, group, w);
     w
 }

@@ -1,5 +1,7 @@
 // Numbers of one width as numbers of another.
-ghost use Rattle.lists.specs.Prelude.{◌≡◌};
+#![tactic(auto)]
+
+ghost use Rattle.std.specs.Prelude.{◌≡◌};
 
 // A 32-bit word as a number that counts or indexes.
 pub fn wide(x: u32) -> usize

@@ -1,7 +1,8 @@
 -- The lists of n numbers below m: those with each number at most its place are among them, and they
 -- rise.
-use Rattle.lists.proofs.Prelude.{◌≡◌, ◌∙◌, ap, refl, subst, List, [], ◌∷◌, map, Memᴰ, Memᴰ-head, Memᴰ-not-nil, Memᴰ-eq_of_singleton}
-use Rattle.lists.proofs.Prelude.{ℕ, zero, suc, ◌+◌, ◌≤◌, ◌<◌, length, arith}
+use Rattle.std.specs.Prelude.{◌≡◌, ◌∷◌, ◌+◌, ◌≤◌, ◌<◌}
+use Rattle.lists.proofs.Prelude.{◌∙◌, ap, refl, subst, List, [], map, Memᴰ, Memᴰ-head, Memᴰ-not-nil, Memᴰ-eq_of_singleton}
+use Rattle.lists.proofs.Prelude.{ℕ, zero, suc, length, arith}
 use Rattle.lists.proofs.Members.{mem-map}
 use Rattle.lists.proofs.Rows.{mem-flatten-tabulate}
 use Rattle.lists.proofs.Rising.{Rising, Rising-map, Rising-rows}

@@ -1,7 +1,8 @@
 -- The next list is the least of the realizable lists of its length that come after it: no such list
 -- is missing where it is looked for, and the least of some lists is one of them and after none.
-use Rattle.lists.proofs.Prelude.{◌≡◌, ap, sym, refl, subst, inl, inr, ◌⊎◌, ◌↔◌, Bool, true, false, cond, none, some, some-injective}
-use Rattle.lists.proofs.Prelude.{none-ne-some, List, [], ◌∷◌, foldr, Memᴰ, Memᴰ-head, Memᴰ-tail, Memᴰ-not-nil}
+use Rattle.std.specs.Prelude.{◌≡◌, ◌⊎◌, ◌↔◌, ◌∷◌}
+use Rattle.lists.proofs.Prelude.{ap, sym, refl, subst, inl, inr, Bool, true, false, cond, none, some, some-injective}
+use Rattle.lists.proofs.Prelude.{none-ne-some, List, [], foldr, Memᴰ, Memᴰ-head, Memᴰ-tail, Memᴰ-not-nil}
 use Rattle.lists.proofs.Prelude.{Memᴰ-cases_cons, ℕ, T, length, before}
 use Rattle.lists.proofs.Tests.{T-true, true-T, and_split, and_join}
 use Rattle.lists.proofs.Select.{mem-select}

@@ -1,6 +1,7 @@
 -- The walk from zeros on: in the rising list of all realizable lists of a length, the next list of
 -- each is the one behind it, as whatever comes after it stands behind it; and zeros stand first.
-use Rattle.lists.proofs.Prelude.{◌≡◌, ◌∙◌, ap, sym, refl, subst, inl, inr, ◌⊎◌, ◌↔◌, none, some, List, [], ◌∷◌, Memᴰ, Memᴰ-head, Memᴰ-tail}
+use Rattle.std.specs.Prelude.{◌≡◌, ◌⊎◌, ◌↔◌, ◌∷◌}
+use Rattle.lists.proofs.Prelude.{◌∙◌, ap, sym, refl, subst, inl, inr, none, some, List, [], Memᴰ, Memᴰ-head, Memᴰ-tail}
 use Rattle.lists.proofs.Prelude.{Memᴰ-not-nil, Memᴰ-cases_cons, ℕ, T, length, replicate, length-replicate, select, before}
 use Rattle.lists.proofs.Tests.{T-true}
 use Rattle.lists.proofs.Select.{mem-select}

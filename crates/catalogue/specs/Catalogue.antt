@@ -1,6 +1,7 @@
 -- The catalogue of a length: its realizable lists in the order of `before`, each with the next one.
 -- Document 02, 2.1: Order is by the first differing distance, smaller first.
-use Rattle.lists.specs.Prelude.{◌↔◌, cond, ◌&&◌, Option, none, some, List, [], ◌∷◌, Memᴰ, map, flatten, foldr, ℕ, zero, suc, ◌<◌, T, ◌≡◌, length, get_or}
+use Rattle.std.specs.Prelude.{◌↔◌, ◌&&◌, ◌∷◌, ◌<◌, ◌≡◌}
+use Rattle.lists.specs.Prelude.{cond, Option, none, some, List, [], Memᴰ, map, flatten, foldr, ℕ, zero, suc, T, length, get_or}
 use Rattle.lists.specs.Prelude.{tabulate, select, before}
 use Rattle.realization.specs.Realization.{Realizable, realizable}
 

@@ -1,6 +1,9 @@
 // The parent distances of values, in time linear in their number: the distances found so far are
 // the links by which the next is sought.
-ghost use Rattle.lists.specs.Prelude.{◌≡◌, ◌++◌, ◌≤◌, ◌<◌, pos, le_z, length, get_or, take, drop, tabulate};
+#![tactic(auto)]
+
+ghost use Rattle.std.specs.Prelude.{◌≡◌, ◌++◌, ◌≤◌, ◌<◌};
+ghost use Rattle.lists.specs.Prelude.{pos, le_z, length, get_or, take, drop, tabulate};
 ghost use Rattle.cartesian.specs.Cartesian.{seek, distance_at, distances};
 
 // Is the value at place j not above the one at place i.

@@ -3,9 +3,11 @@
 -- distances, cut at its place in the tail, is the distance there (`tail_iff`); so a tail of a head
 -- of i + 1 values is a tail of the head of i values that the last distance continues (`tail_next`),
 -- and a tail of a tail is a tail (`tail_of_tail`).
+use Rattle.std.specs.Prelude.{◌≡◌, ◌↔◌, ◌+◌, ◌-◌, ◌≤◌, ◌<◌}
 use Rattle.lists.proofs.Tables.{filled_at}
-use Rattle.lists.proofs.Prelude.{◌≡◌, ◌∙◌, ap, sym, refl, subst, ◌↔◌, Bool, true, false, List, ℕ, zero, suc, pred, ◌+◌, ◌-◌, ◌≤◌, ◌<◌, zero-le, T, eqb, length}
-use Rattle.lists.proofs.Prelude.{get_or, take, drop, length-drop, length-take-le, get_or-take, get_or-drop, ext_get_or, add-one, dec_lt, arith, eq-eqb, le-leb, lt-leb}
+use Rattle.lists.proofs.Prelude.{◌∙◌, ap, sym, refl, subst, Bool, true, false, List, ℕ, zero, suc, pred, zero-le, T, eqb, length}
+use Rattle.lists.proofs.Prelude.{get_or, take, drop, length-drop, length-take-le, get_or-take, get_or-drop, ext_get_or, add-one, dec_lt, arith}
+use Rattle.lists.proofs.Prelude.{eq-eqb, le-leb, lt-leb}
 use Rattle.lists.proofs.Prelude.{eqb-true, eqb-false, last_of, tabulate, last_below}
 use Rattle.lists.proofs.Tests.{true-T}
 use Rattle.lists.proofs.LastBelow.{last_below-le, last_below_passes, last_below_none, last_below_skip}

@@ -1,6 +1,9 @@
 // The failure lengths of the heads of a list of parent distances, in linear time and with no array
 // besides the answer's.
-ghost use Rattle.lists.specs.Prelude.{◌≡◌, true, ◌++◌, suc, ◌≤◌, ◌<◌, eqb, length, get_or, take, drop, tabulate};
+#![tactic(auto)]
+
+ghost use Rattle.std.specs.Prelude.{◌≡◌, ◌++◌, ◌≤◌, ◌<◌};
+ghost use Rattle.lists.specs.Prelude.{true, suc, eqb, length, get_or, take, drop, tabulate};
 ghost use Rattle.cartesian.specs.Cartesian.{cut};
 ghost use Rattle.realization.specs.Realization.{realizable, failure_length, failure_lengths};
 

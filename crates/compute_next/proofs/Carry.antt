@@ -1,7 +1,8 @@
 -- The next list of those that a walk accepts, from any open places on: where no distance behind the
 -- first can be raised, it has the least greater distance there and zeros behind it; where one can,
 -- the first distance stays.
-use Rattle.lists.proofs.Prelude.{◌≡◌, ap, sym, refl, subst, inl, inr, ◌⊎◌, true, List, [], ◌∷◌, ◌++◌, append_assoc, ℕ, zero, suc, ◌-◌, ◌≤◌, ◌<◌, T, eqb, length}
+use Rattle.std.specs.Prelude.{◌≡◌, ◌⊎◌, ◌∷◌, ◌++◌, ◌-◌, ◌≤◌, ◌<◌}
+use Rattle.lists.proofs.Prelude.{ap, sym, refl, subst, inl, inr, true, List, [], append_assoc, ℕ, zero, suc, T, eqb, length}
 use Rattle.lists.proofs.Prelude.{get_or, take, drop, replicate, length-replicate, length-drop, drop_of_length-le, drop-cons, take-suc, arith, any, before}
 use Rattle.lists.proofs.Tests.{T-true, true-T, and_split, and_join}
 use Rattle.lists.proofs.Before.{before_cases, before_first, before_rest, before_zeros}

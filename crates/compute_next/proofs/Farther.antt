@@ -1,7 +1,8 @@
 -- The ways through `raised`: what is open before a place i, above its own distance d. Above 0 the
 -- place i - 1 comes first. A distance d leads to the place i - d, and the open places before that
 -- one are those that its own distance e leaves open, the nearest of which is e farther.
-use Rattle.lists.proofs.Prelude.{◌≡◌, ◌∙◌, sym, refl, true, List, ℕ, zero, suc, ◌+◌, ◌-◌, ◌≤◌, ◌<◌, eqb, length, get_or, dec_lt, arith, any}
+use Rattle.std.specs.Prelude.{◌≡◌, ◌+◌, ◌-◌, ◌≤◌, ◌<◌}
+use Rattle.lists.proofs.Prelude.{◌∙◌, sym, refl, true, List, ℕ, zero, suc, eqb, length, get_or, dec_lt, arith, any}
 use Rattle.lists.proofs.Tests.{clash}
 use Rattle.realization.specs.Realization.{realizable}
 use Rattle.realization.specs.Walk.{leads}

@@ -1,5 +1,6 @@
 -- The places of a list that is changed at one of them and has zeros behind it.
-use Rattle.lists.proofs.Prelude.{◌≡◌, ◌∙◌, ap, sym, List, ◌∷◌, ℕ, suc, ◌+◌, ◌-◌, ◌≤◌, ◌<◌, length, get_or, take, replicate, length-append, length-replicate}
+use Rattle.std.specs.Prelude.{◌≡◌, ◌∷◌, ◌+◌, ◌-◌, ◌≤◌, ◌<◌}
+use Rattle.lists.proofs.Prelude.{◌∙◌, ap, sym, List, ℕ, suc, length, get_or, take, replicate, length-append, length-replicate}
 use Rattle.lists.proofs.Prelude.{get_or-replicate, length-take-le, get_or-take, get_or_at, take_all, dec_lt, arith}
 use Rattle.lists.proofs.Places.{get_or_before, get_or_after}
 use Rattle.compute_next.specs.Change.{replaced}

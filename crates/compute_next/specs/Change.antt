@@ -1,5 +1,6 @@
 -- A list of distances that is changed at one place, and has zeros behind it.
-use Rattle.lists.specs.Prelude.{Option, none, some, List, ◌∷◌, ◌++◌, ℕ, suc, ◌-◌, length, take, replicate}
+use Rattle.std.specs.Prelude.{◌∷◌, ◌++◌, ◌-◌}
+use Rattle.lists.specs.Prelude.{Option, none, some, List, ℕ, suc, length, take, replicate}
 use Rattle.compute_next.specs.declared.Change.{Change}
 
 -- the list with e at place i, and 0 behind it

@@ -1,5 +1,6 @@
 -- A greater distance at a place, where it is known what is open there.
-use Rattle.lists.specs.Prelude.{◌≡◌, true, List, ℕ, ◌≤◌, ◌<◌, eqb, any}
+use Rattle.std.specs.Prelude.{◌≡◌, ◌≤◌, ◌<◌}
+use Rattle.lists.specs.Prelude.{true, List, ℕ, eqb, any}
 
 -- e is the least of the open places' distances that is above d; 0 where none is
 pub record IsRaised (os : List ℕ) (d e : ℕ) : Type 0 where

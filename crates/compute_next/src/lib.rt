@@ -1,6 +1,9 @@
 // The next list in the catalogue of its length, in linear time: the last place that can have a
 // greater distance gets the least such distance, and every place behind it gets 0.
-ghost use Rattle.lists.specs.Prelude.{◌≡◌, true, ◌++◌, ◌≤◌, ◌<◌, length, get_or, drop};
+#![tactic(auto)]
+
+ghost use Rattle.std.specs.Prelude.{◌≡◌, ◌++◌, ◌≤◌, ◌<◌};
+ghost use Rattle.lists.specs.Prelude.{true, length, get_or, drop};
 ghost use Rattle.realization.specs.Realization.{realizable};
 ghost use Rattle.compute_realization.specs.OpenDistances.{open_distances};
 ghost use Rattle.catalogue.specs.Catalogue.{next_list};
@@ -8,7 +11,7 @@ ghost use Rattle.compute_next.specs.Raised.{IsRaised};
 ghost use Rattle.compute_next.specs.Change.{replaced, changed};
 
 // Where the next list first differs, and its distance there; behind that it has zeros.
-#[derive(Drop)]
+#[derive(Clone, Copy)]
 pub enum Change {
     Nowhere,
     At(usize, u32),

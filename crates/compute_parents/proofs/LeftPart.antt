@@ -1,6 +1,7 @@
 -- The prefix child of a place is the root of its left part, and a walk along the links finds it:
 -- it is the last place of the left part that leads to no place of it.
-use Rattle.lists.proofs.Prelude.{◌≡◌, ◌∙◌, ap, refl, inl, inr, ◌⊎◌, Option, none, some, ℕ, zero, suc, ◌+◌, ◌-◌, ◌≤◌, ◌<◌, get_or, arith}
+use Rattle.std.specs.Prelude.{◌≡◌, ◌⊎◌, ◌+◌, ◌-◌, ◌≤◌, ◌<◌}
+use Rattle.lists.proofs.Prelude.{◌∙◌, ap, refl, inl, inr, Option, none, some, ℕ, zero, suc, get_or, arith}
 use Rattle.lists.proofs.Places.{Place, before, here, after, place}
 use Rattle.cartesian.specs.Cartesian.{Tree, leaf, node, size}
 use Rattle.global_parents.specs.GlobalParents.{root_of}
@@ -104,7 +105,8 @@ left_child (node l r) a j h = go j (place (size l) (size r) j h) (left_child l a
   where
     go : (j : ℕ) → Place (size l) (size r) j
         → ((k : ℕ) → k < size l → ChildOfPart (distance l) a (after_link k (distance l k)) k (get_or (left_children a l) k none))
-        → ((k : ℕ) → k < size r → ChildOfPart (distance r) (suc (a + size l)) (after_link k (distance r k)) k (get_or (left_children (suc (a + size l)) r) k none))
+        → ((k : ℕ) → k < size r → ChildOfPart (distance r) (suc (a + size l)) (after_link k (distance r k)) k
+        (get_or (left_children (suc (a + size l)) r) k none))
         → ChildOfPart (distance (node l r)) a (after_link j (distance (node l r) j)) j (get_or (left_children a (node l r)) j none)
     go j (before h) hl hr =
         rw (child_left a l r j h, distance_left l r j h)

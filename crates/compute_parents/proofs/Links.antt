@@ -1,6 +1,7 @@
 -- Links do not cross: where place k of a tree leads to a place before it, each place between the
 -- two leads to a place that is not before that one.
-use Rattle.lists.proofs.Prelude.{◌≡◌, refl, inl, inr, ◌⊎◌, ℕ, zero, suc, ◌+◌, ◌-◌, ◌≤◌, ◌<◌, get_or, arith}
+use Rattle.std.specs.Prelude.{◌≡◌, ◌⊎◌, ◌+◌, ◌-◌, ◌≤◌, ◌<◌}
+use Rattle.lists.proofs.Prelude.{refl, inl, inr, ℕ, zero, suc, get_or, arith}
 use Rattle.lists.proofs.Places.{Place, before, here, after, place}
 use Rattle.cartesian.specs.Cartesian.{Tree, leaf, node, size}
 use Rattle.cartesian.proofs.Structure.{or_else, tree_distances}

@@ -1,7 +1,9 @@
 -- One place more: what place j tells changes the parents that the places below j tell into those
 -- that the places up to j tell, and the parents that all places tell are the global parents.
-use Rattle.lists.proofs.Prelude.{◌≡◌, ◌∙◌, ap, sym, refl, subst, true, false, ◌&&◌, Option, none, some, List, ◌++◌, ℕ, zero, suc, ◌+◌, ◌-◌, ◌≤◌, ◌<◌, eqb, ltb}
-use Rattle.lists.proofs.Prelude.{ltb→lt, length, get_or, drop, set, length-append, length-drop, set-append_left, add-one, arith, eq-eqb, ne_eqb, lt-ltb, tabulate}
+use Rattle.std.specs.Prelude.{◌≡◌, ◌&&◌, ◌++◌, ◌+◌, ◌-◌, ◌≤◌, ◌<◌}
+use Rattle.lists.proofs.Prelude.{◌∙◌, ap, sym, refl, subst, true, false, Option, none, some, List, ℕ, zero, suc, eqb, ltb}
+use Rattle.lists.proofs.Prelude.{ltb→lt, length, get_or, drop, set, length-append, length-drop, set-append_left, add-one, arith, eq-eqb, ne_eqb}
+use Rattle.lists.proofs.Prelude.{lt-ltb, tabulate}
 use Rattle.lists.proofs.Prelude.{last_below}
 use Rattle.lists.proofs.Tests.{and_split, and-false}
 use Rattle.lists.proofs.LastBelow.{last_below-zero}

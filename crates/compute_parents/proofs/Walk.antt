@@ -1,7 +1,8 @@
 -- The walk to a prefix child, for realizable distances: each link skips only places that lead into
 -- the part, so the first place that leads out of it is its root.
-use Rattle.lists.proofs.Prelude.{◌≡◌, ◌∙◌, ap, sym, refl, subst, inl, inr, ◌⊎◌, Bool, true, false, ◌||◌, none, some, some-injective, none-ne-some}
-use Rattle.lists.proofs.Prelude.{List, ℕ, zero, suc, ◌+◌, ◌-◌, ◌≤◌, ◌<◌, T, eqb, ltb, length, get_or, add-one, dec_lt, arith, eq-eqb, ne_eqb, lt-ltb, le-ltb}
+use Rattle.std.specs.Prelude.{◌≡◌, ◌⊎◌, ◌||◌, ◌+◌, ◌-◌, ◌≤◌, ◌<◌}
+use Rattle.lists.proofs.Prelude.{◌∙◌, ap, sym, refl, subst, inl, inr, Bool, true, false, none, some, some-injective, none-ne-some}
+use Rattle.lists.proofs.Prelude.{List, ℕ, zero, suc, T, eqb, ltb, length, get_or, add-one, dec_lt, arith, eq-eqb, ne_eqb, lt-ltb, le-ltb}
 use Rattle.lists.proofs.Prelude.{ltb-false, last_below}
 use Rattle.lists.proofs.Tests.{T-true, not_zero}
 use Rattle.lists.proofs.LastBelow.{last_below-le, last_below_is, last_below_skip}
@@ -92,7 +93,8 @@ link_le ds k r = of_realizable (λ ds. k < length ds → get_or ds k 0 ≤ k) (�
 pub walk_goes_on : (ds : List ℕ) (b k : ℕ) → realizable ds ≡ true → k < length ds → is_root_from ds b k ≡ false
     → last_below (is_root_from ds b) (k + 1) ≡ last_below (is_root_from ds b) (k - get_or ds k 0 + 1)
 walk_goes_on ds b k r =
-    of_realizable (λ ds. k < length ds → is_root_from ds b k ≡ false → last_below (is_root_from ds b) (k + 1) ≡ last_below (is_root_from ds b) (k - get_or ds k 0 + 1))
+    of_realizable (λ ds. k < length ds → is_root_from ds b k ≡ false → last_below (is_root_from ds b) (k + 1)
+    ≡ last_below (is_root_from ds b) (k - get_or ds k 0 + 1))
     (λ t h. walk_tree t b k (rw length-tree_distances at h)) ds r
 
 prefix_child_lem : (ds : List ℕ) (j : ℕ) → realizable ds ≡ true → j < length ds → ChildOfPart (λ k. get_or ds k 0) 0 (left_start ds j) j (prefix_child ds j)

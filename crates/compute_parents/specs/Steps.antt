@@ -1,6 +1,7 @@
 -- What one step of the computation of global parents finds and stores, for a list of parent
 -- distances.
-use Rattle.lists.specs.Prelude.{Bool, ◌&&◌, ◌||◌, Option, none, some, List, ℕ, zero, suc, ◌+◌, ◌-◌, eqb, ltb, get_or, take, set, last_below}
+use Rattle.std.specs.Prelude.{◌&&◌, ◌||◌, ◌+◌, ◌-◌}
+use Rattle.lists.specs.Prelude.{Bool, Option, none, some, List, ℕ, zero, suc, eqb, ltb, get_or, take, set, last_below}
 use Rattle.cartesian.specs.Cartesian.{tree_of}
 use Rattle.global_parents.specs.GlobalParents.{last_left_child, is_prefix_child}
 

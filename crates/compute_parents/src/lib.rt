@@ -1,5 +1,8 @@
 // Global parents in linear time.
-ghost use Rattle.lists.specs.Prelude.{◌≡◌, true, ◌++◌, ◌+◌, ◌-◌, ◌≤◌, ◌<◌, length, get_or, drop, last_below};
+#![tactic(auto)]
+
+ghost use Rattle.std.specs.Prelude.{◌≡◌, ◌++◌, ◌+◌, ◌-◌, ◌≤◌, ◌<◌};
+ghost use Rattle.lists.specs.Prelude.{true, length, get_or, drop, last_below};
 ghost use Rattle.realization.specs.Realization.{realizable};
 ghost use Rattle.global_parents.specs.GlobalParents.{global_parents};
 ghost use Rattle.compute_parents.specs.Steps.{left_start, is_root_from, with_place};

@@ -1,7 +1,8 @@
 -- The ways through the loops, in the words of the code: which factorial the product is, what of a
 -- list is in the sum and what is still to be ranked, and which distances of a code are written
 -- already.
-use Rattle.lists.proofs.Prelude.{◌≡◌, ◌∙◌, ap, sym, refl, subst, true, List, [], ◌∷◌, ◌++◌, ℕ, zero, suc, ◌+◌, ◌*◌, ◌/◌, ◌%◌, ◌^◌, ◌≤◌, ◌<◌, T, length, get_or}
+use Rattle.std.specs.Prelude.{◌≡◌, ◌∷◌, ◌++◌, ◌+◌, ◌*◌, ◌/◌, ◌%◌, ◌^◌, ◌≤◌, ◌<◌}
+use Rattle.lists.proofs.Prelude.{◌∙◌, ap, sym, refl, subst, true, List, [], ℕ, zero, suc, T, length, get_or}
 use Rattle.lists.proofs.Prelude.{drop, set, drop_of_length-le, drop-cons, mod-lt, mul-le-mul_right, add-one, dec_lt, arith}
 use Rattle.lists.proofs.Tables.{tabulate_more}
 use Rattle.realization.specs.Realization.{realizable}

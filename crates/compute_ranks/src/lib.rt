@@ -1,6 +1,9 @@
 // The code of a list of parent distances in the factorial number system, and back. Document 01:
 // Code. Document 02, 2.4.
-ghost use Rattle.lists.specs.Prelude.{◌≡◌, true, ◌++◌, suc, ◌+◌, ◌/◌, ◌%◌, ◌≤◌, ◌<◌, length, drop};
+#![tactic(auto)]
+
+ghost use Rattle.std.specs.Prelude.{◌≡◌, ◌++◌, ◌+◌, ◌/◌, ◌%◌, ◌≤◌, ◌<◌};
+ghost use Rattle.lists.specs.Prelude.{true, suc, length, drop};
 ghost use Rattle.ranking.specs.Rank.{factorial, rank, unrank};
 ghost use Rattle.realization.specs.Realization.{realizable};
 

@@ -2,7 +2,8 @@
 -- induction on the tree. A place left of a root has its next lower place there or at the root; a
 -- root has none, as all after it lead to it or to a later place; a place right of a root has the
 -- one that it has in the right part, as a distance to the root leads before it.
-use Rattle.lists.proofs.Prelude.{◌≡◌, ◌∙◌, ap, sym, refl, subst, true, List, [], ◌∷◌, map, ℕ, zero, suc, ◌+◌, ◌-◌, ◌≤◌, ◌<◌, pos, ◌+ℤ◌, length, get_or}
+use Rattle.std.specs.Prelude.{◌≡◌, ◌∷◌, ◌+◌, ◌-◌, ◌≤◌, ◌<◌, ◌+ℤ◌}
+use Rattle.lists.proofs.Prelude.{◌∙◌, ap, sym, refl, subst, true, List, [], map, ℕ, zero, suc, pos, length, get_or}
 use Rattle.lists.proofs.Prelude.{length-map, get_or-map, get_or_at, add-one, dec_lt, arith}
 use Rattle.lists.proofs.Tests.{T-true}
 use Rattle.lists.proofs.Places.{Place, before, here, after, place, get_or_before, get_or_after}
@@ -123,7 +124,8 @@ Rises-root l r j p = (
   λ q. root_turns l r,
 )
 
-Rises-right : (l r : Tree) (k m : ℕ) → Rises (left_turns r) (size r) k m → Rises (left_turns (node l r)) (size l + suc (size r)) (size l + suc k) (size l + suc m)
+Rises-right : (l r : Tree) (k m : ℕ) → Rises (left_turns r) (size r) k m
+    → Rises (left_turns (node l r)) (size l + suc (size r)) (size l + suc k) (size l + suc m)
 Rises-right l r k m ih = (λ q. rw (right_turns l r k, right_turns l r m) (ih.0 (omega arith)), λ q. rw (right_turns l r k) (ih.1 (omega arith)))
 
 pub turns_next : (t : Tree) (i j : ℕ) → i < size t → IsNext (tree_distances t) i j → Rises (left_turns t) (size t) i j
@@ -160,7 +162,8 @@ least_more ds i j e h p q =
     let t = left_turns (tree_of ds) in
     rw (get_or-map pos t i 0, get_or-map pos t j 0, add-one) (ap pos ((least-Rises ds i j e h p).0 q))
 
-pub least_zero : (ds : List ℕ) (i j : ℕ) → realizable ds ≡ true → i < length ds → IsNext ds i j → length ds ≤ j → get_or (least_realization ds) i (pos 0) ≡ pos 0
+pub least_zero : (ds : List ℕ) (i j : ℕ) → realizable ds ≡ true → i < length ds → IsNext ds i j → length ds ≤ j → get_or (least_realization ds) i (pos 0)
+    ≡ pos 0
 unfolding least_realization
 least_zero ds i j e h p q = rw (get_or-map pos (left_turns (tree_of ds)) i 0) (ap pos ((least-Rises ds i j e h p).1 q))
 

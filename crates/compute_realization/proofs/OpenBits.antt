@@ -1,8 +1,9 @@
 -- The near distances that may come next, as bits: what a distance d leaves of them is what is open
 -- one place on.
+use Rattle.std.specs.Prelude.{◌≡◌, ◌&&◌, ◌||◌, ◌+◌, ◌-◌, ◌*◌, ◌%◌, ◌^◌, ◌≤◌, ◌<◌}
 use lib.Bits.{bit_or}
 use lib.Dec.{leb-suc-suc}
-use Rattle.lists.proofs.Prelude.{◌≡◌, ◌∙◌, ap, sym, Bool, true, false, ◌&&◌, ◌||◌, List, [], ℕ, zero, suc, ◌+◌, ◌-◌, ◌*◌, ◌%◌, ◌^◌, ◌≤◌, ◌<◌, leb, ltb}
+use Rattle.lists.proofs.Prelude.{◌∙◌, ap, sym, Bool, true, false, List, [], ℕ, zero, suc, leb, ltb}
 use Rattle.lists.proofs.Prelude.{dec_lt, arith, le-leb, lt-leb, lt-ltb, eqb, get_or, add-one, any}
 use Rattle.lists.proofs.Tests.{and-true, and_comm, or_comm}
 use Rattle.bit_sets.specs.BitSets.{bit_at}

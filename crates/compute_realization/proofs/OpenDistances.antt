@@ -1,8 +1,10 @@
 -- The open places before a place i are i - 1 and what its link leads to, and so on down: from an
 -- open place on, the way of links is the same.
+use Rattle.std.specs.Prelude.{◌≡◌, ◌||◌, ◌∷◌, ◌+◌, ◌-◌, ◌≤◌, ◌<◌}
 use Rattle.lists.proofs.Tests.{T-true, true-T, clash, and_split}
-use Rattle.lists.proofs.Prelude.{◌≡◌, ◌∙◌, ap, sym, refl, Bool, true, false, cond, ◌||◌, List, [], ◌∷◌, map, ℕ, zero, suc, ◌+◌, ◌-◌, ◌≤◌, ◌<◌, T, eqb, leb}
-use Rattle.lists.proofs.Prelude.{eqb-suc-suc, eqb-zero-suc, length, get_or, drop, drop_of_length-le, drop-cons, add-one, dec_lt, arith, eq-eqb, ne_eqb, leb-true}
+use Rattle.lists.proofs.Prelude.{◌∙◌, ap, sym, refl, Bool, true, false, cond, List, [], map, ℕ, zero, suc, T, eqb, leb}
+use Rattle.lists.proofs.Prelude.{eqb-suc-suc, eqb-zero-suc, length, get_or, drop, drop_of_length-le, drop-cons, add-one, dec_lt, arith, eq-eqb}
+use Rattle.lists.proofs.Prelude.{ne_eqb, leb-true}
 use Rattle.lists.proofs.Prelude.{leb-false, any, select}
 use Rattle.realization.specs.Realization.{realizable}
 use Rattle.realization.specs.Walk.{leads, opened, walk}

@@ -1,8 +1,10 @@
 -- What the least values come to in an array that is written from its end to its front: what is
 -- before place i is as it was, what is from i on is as it will be.
+use Rattle.std.specs.Prelude.{◌≡◌, ◌++◌, ◌-◌, ◌^◌, ◌≤◌, ◌<◌, ◌+ℤ◌, ◌≤ℤ◌}
 use Rattle.lists.proofs.Parts.{put_none, put_more, put_at}
-use Rattle.lists.proofs.Prelude.{◌≡◌, ◌∙◌, sym, Bool, true, false, cond, List, ◌++◌, ℕ, suc, ◌-◌, ◌^◌, ◌≤◌, ◌<◌, ℤ, pos, negsuc, ◌+ℤ◌, ◌≤ℤ◌, mag, ltb, leb→le}
-use Rattle.lists.proofs.Prelude.{length, get_or, take, drop, set, length-append, length-drop, get_or-append, get_or-set_same, get_or-set_other, dec_lt, arith, w32}
+use Rattle.lists.proofs.Prelude.{◌∙◌, sym, Bool, true, false, cond, List, ℕ, suc, ℤ, pos, negsuc, mag, ltb, leb→le}
+use Rattle.lists.proofs.Prelude.{length, get_or, take, drop, set, length-append, length-drop, get_or-append, get_or-set_same, get_or-set_other}
+use Rattle.lists.proofs.Prelude.{dec_lt, arith, w32}
 use Rattle.lists.proofs.Prelude.{SFits}
 use Rattle.lists.proofs.Tests.{T-true}
 use Rattle.realization.specs.Realization.{realizable, least_realization}

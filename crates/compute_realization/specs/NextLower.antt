@@ -1,5 +1,6 @@
 -- The next place with a lower value, by the parent distances alone.
-use Rattle.lists.specs.Prelude.{List, ℕ, ◌+◌, ◌≤◌, ◌<◌, length, get_or}
+use Rattle.std.specs.Prelude.{◌+◌, ◌≤◌, ◌<◌}
+use Rattle.lists.specs.Prelude.{List, ℕ, length, get_or}
 
 -- the distance at j leads to i or to a later place: the value at j is not below the value at i
 abbrev pub Reaches : List ℕ → ℕ → ℕ → Type 0

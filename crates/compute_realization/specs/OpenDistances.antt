@@ -1,5 +1,6 @@
 -- What is open before a place of a list of distances, where the walk comes by.
-use Rattle.lists.specs.Prelude.{◌≡◌, true, List, [], ℕ, zero, suc, ◌<◌, get_or}
+use Rattle.std.specs.Prelude.{◌≡◌, ◌<◌}
+use Rattle.lists.specs.Prelude.{true, List, [], ℕ, zero, suc, get_or}
 use Rattle.bit_sets.specs.BitSets.{bit_at}
 use Rattle.realization.specs.Walk.{leads, opened}
 

@@ -1,7 +1,9 @@
 // Which lists of parent distances some values have, and the least values that have one, in linear
 // time.
-ghost use Rattle.std.specs.Prelude.{◌+ℤ◌};
-ghost use Rattle.lists.specs.Prelude.{◌≡◌, true, ◌&&◌, List, ◌++◌, ℕ, ◌-◌, ◌≤◌, ◌<◌, eqb, leb, ltb, pos, ◌≤ℤ◌, length, get_or, drop, any};
+#![tactic(auto)]
+
+ghost use Rattle.std.specs.Prelude.{◌+ℤ◌, ◌≡◌, ◌&&◌, ◌++◌, ◌-◌, ◌≤◌, ◌<◌, ◌≤ℤ◌};
+ghost use Rattle.lists.specs.Prelude.{true, List, ℕ, eqb, leb, ltb, pos, length, get_or, drop, any};
 ghost use Rattle.bit_sets.specs.BitSets.{bit_at};
 ghost use Rattle.realization.specs.Realization.{realizable, least_realization};
 ghost use Rattle.realization.specs.Walk.{leads, opened};

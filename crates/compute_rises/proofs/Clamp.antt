@@ -1,9 +1,10 @@
 -- The clamped difference of two values of 32 bits: the difference fits 64 bits, and which of its
 -- three ways `clamp` goes.
+use Rattle.std.specs.Prelude.{◌≡◌, ◌-◌, ◌^◌, ◌<◌, ◌-ℤ◌}
 use mir.Syntax.{w64}
 use mir.Facts.{sfits_widen}
 use lib.IntN.{sub_ℕ}
-use Rattle.lists.proofs.Prelude.{◌≡◌, refl, Bool, true, false, cond, ℕ, zero, suc, ◌-◌, ◌^◌, ◌<◌, ltb, ltb-false, ℤ, pos, negsuc, ◌-ℤ◌, lt_z, mag, w32, SFits}
+use Rattle.lists.proofs.Prelude.{refl, Bool, true, false, cond, ℕ, zero, suc, ltb, ltb-false, ℤ, pos, negsuc, lt_z, mag, w32, SFits}
 use Rattle.lists.proofs.Prelude.{to_z, of_z, to_z-of_z, arith}
 use Rattle.matching.specs.Rise.{clamp}
 

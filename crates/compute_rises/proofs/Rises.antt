@@ -1,6 +1,7 @@
 -- The rises over hits: of one hit, from the values at the two ends of its window, and one rise at
 -- every place. And when an array is too short for them.
-use Rattle.lists.proofs.Prelude.{◌≡◌, ◌∙◌, ap, ap₂, refl, List, ◌∷◌, ◌++◌, ℕ, zero, suc, ◌+◌, ◌-◌, ◌*◌, ◌/◌, ◌≤◌, ◌<◌, ltb, ltb→lt, lt→ltb, ℤ, pos, ◌-ℤ◌}
+use Rattle.std.specs.Prelude.{◌≡◌, ◌∷◌, ◌++◌, ◌+◌, ◌-◌, ◌*◌, ◌/◌, ◌≤◌, ◌<◌, ◌-ℤ◌}
+use Rattle.lists.proofs.Prelude.{◌∙◌, ap, ap₂, refl, List, ℕ, zero, suc, ltb, ltb→lt, lt→ltb, ℤ, pos}
 use Rattle.lists.proofs.Prelude.{length, get_or, drop, set, replicate, length-set, lt-ltb, le-ltb, arith, tabulate}
 use Rattle.lists.proofs.Tests.{test_ext}
 use Rattle.lists.proofs.Tables.{tabulate-cons, tabulate_more}

@@ -1,6 +1,9 @@
 // The rises over hits: the last value of each hit's window minus the first, clamped to the signed
 // 32-bit range. Document 02, 2.7; document 01: Forms for parts of the code.
-ghost use Rattle.lists.specs.Prelude.{◌≡◌, ◌++◌, suc, ◌+◌, ◌*◌, ◌≤◌, ◌<◌, ltb, pos, ◌-ℤ◌, length, get_or, drop, replicate};
+#![tactic(auto)]
+
+ghost use Rattle.std.specs.Prelude.{◌≡◌, ◌++◌, ◌+◌, ◌*◌, ◌≤◌, ◌<◌, ◌-ℤ◌};
+ghost use Rattle.lists.specs.Prelude.{suc, ltb, pos, length, get_or, drop, replicate};
 ghost use Rattle.matching.specs.Rise.{clamp, rise_over};
 ghost use Rattle.search_model.specs.Recent.{found_at};
 

@@ -1,5 +1,6 @@
 -- When a filter search is accepted.
-use Rattle.lists.proofs.Prelude.{◌≡◌, ◌∙◌, sym, refl, List, [], ◌∷◌, ℕ, ◌*◌, ◌≤◌, ℤ, T, ltb, length, le-ltb, ltb-false}
+use Rattle.std.specs.Prelude.{◌≡◌, ◌∷◌, ◌*◌, ◌≤◌}
+use Rattle.lists.proofs.Prelude.{◌∙◌, sym, refl, List, [], ℕ, ℤ, T, ltb, length, le-ltb, ltb-false}
 use Rattle.pattern_set.specs.PatternSet.{IsSet, patterns_of, may_search}
 use Rattle.matching.specs.Matching.{hits}
 use Rattle.entries.specs.Entries.{Conditions, first_met, set_conditions, is_short, filter_conditions}

@@ -1,6 +1,7 @@
 -- The entry that goes to the next list: what a call tells and leaves, by the first of its
 -- conditions that is met, in the words of the code's tests; and back, which list a call tells of.
-use Rattle.lists.proofs.Prelude.{◌≡◌, ◌∙◌, ap, sym, Bool, true, false, cond, Option, none, some, List, ◌++◌, ℕ, ◌≤◌, ◌<◌, ltb, length, drop, eq-eqb, ne_eqb}
+use Rattle.std.specs.Prelude.{◌≡◌, ◌++◌, ◌≤◌, ◌<◌}
+use Rattle.lists.proofs.Prelude.{◌∙◌, ap, sym, Bool, true, false, cond, Option, none, some, List, ℕ, ltb, length, drop, eq-eqb, ne_eqb}
 use Rattle.lists.proofs.Prelude.{lt-ltb, refl, take, take_at, le-ltb, arith}
 use Rattle.answers.specs.declared.Refusal.{Refusal}
 use Rattle.realization.specs.Realization.{realizable}
@@ -37,7 +38,8 @@ module _ (ds out : List ℕ) where
 
     pub next_last : none ≡ next_list ds → Answers 0 (1, 0) out
     next_last q =
-        accepted (0, 0) (next_entry ds out) (1, 0) out out (room none q ∙ ap (λ (b : Bool). cond b 10 0) (le-ltb (length out) 0 (omega arith))) (ap next_counts q)
+        accepted (0, 0) (next_entry ds out) (1, 0) out out (room none q ∙ ap (λ (b : Bool). cond b 10 0) (le-ltb (length out) 0 (omega arith)))
+        (ap next_counts q)
         (ap (λ (n : Option (List ℕ)). next_words n ++ drop (length (next_words n)) out) q)
 
     module _ (es : List ℕ) (q : some es ≡ next_list ds) where

@@ -1,6 +1,7 @@
 -- Sets that are to be searched: what an entry knows once the array is checked, which of the first
 -- conditions is met, and that none is exactly if the set may be searched.
-use Rattle.lists.proofs.Prelude.{◌≡◌, ◌∙◌, ap, sym, refl, ◌↔◌, Bool, true, false, not, ◌&&◌, List, [], ◌∷◌, ◌++◌, flatten, ℕ, eqb, T, length, arith}
+use Rattle.std.specs.Prelude.{◌≡◌, ◌↔◌, ◌&&◌, ◌∷◌, ◌++◌}
+use Rattle.lists.proofs.Prelude.{◌∙◌, ap, sym, refl, Bool, true, false, not, List, [], flatten, ℕ, eqb, T, length, arith}
 use Rattle.lists.proofs.Prelude.{eq-eqb, ne_eqb, not-false, eqb-false, begins}
 use Rattle.lists.proofs.Tests.{positive}
 use Rattle.pattern_set.specs.PatternSet.{is_set, IsSet, patterns_of, holds_one_value, may_search}

@@ -1,7 +1,8 @@
 -- What is known of an accepted add and of an accepted withdrawal: what the array held, and that it
 -- holds the new set afterwards.
-use Rattle.lists.proofs.Prelude.{◌≡◌, ◌∙◌, sym, refl, not, ◌||◌, List, [], ◌∷◌, ◌++◌, append_assoc, flatten, ℕ, ◌+◌, ◌-◌, ◌≤◌}
-use Rattle.lists.proofs.Prelude.{◌<◌, ℤ, T, eqb, leb, ltb, length, drop, replicate, arith, lt-leb, not-false, leb-false, ltb-false, eqb-false, begins}
+use Rattle.std.specs.Prelude.{◌≡◌, ◌||◌, ◌∷◌, ◌++◌, ◌+◌, ◌-◌, ◌≤◌, ◌<◌}
+use Rattle.lists.proofs.Prelude.{◌∙◌, sym, refl, not, List, [], append_assoc, flatten, ℕ}
+use Rattle.lists.proofs.Prelude.{ℤ, T, eqb, leb, ltb, length, drop, replicate, arith, lt-leb, not-false, leb-false, ltb-false, eqb-false, begins}
 use Rattle.lists.proofs.Tests.{none_left, none_right}
 use Rattle.lists.proofs.Same.{begins_iff}
 use Rattle.gaps.specs.Gaps.{holds_gap}

@@ -1,5 +1,6 @@
 -- What is known of an accepted call of the stream search.
-use Rattle.lists.proofs.Prelude.{◌≡◌, ◌∙◌, sym, false, not, ◌||◌, List, [], ◌∷◌, ℕ, ◌+◌, ◌*◌, ◌≤◌, ℤ, ltb, length, ltb-false, begins}
+use Rattle.std.specs.Prelude.{◌≡◌, ◌||◌, ◌∷◌, ◌+◌, ◌*◌, ◌≤◌}
+use Rattle.lists.proofs.Prelude.{◌∙◌, sym, false, not, List, [], ℕ, ℤ, ltb, length, ltb-false, begins}
 use Rattle.lists.proofs.Tests.{none_left}
 use Rattle.answers.specs.declared.SearchState.{SearchState}
 use Rattle.pattern_set.specs.PatternSet.{IsSet, patterns_of}

@@ -1,5 +1,6 @@
 -- The entries: when each refuses, what it counts and what it writes.
-use Rattle.lists.specs.Prelude.{Bool, cond, not, ◌&&◌, ◌||◌, List, [], ◌∷◌, ◌++◌, map, flatten, ℕ, zero, suc, ◌+◌, ◌-◌, ◌*◌, eqb, leb, ltb, ℤ, length, drop}
+use Rattle.std.specs.Prelude.{◌&&◌, ◌||◌, ◌∷◌, ◌++◌, ◌+◌, ◌-◌, ◌*◌}
+use Rattle.lists.specs.Prelude.{Bool, cond, not, List, [], map, flatten, ℕ, zero, suc, eqb, leb, ltb, ℤ, length, drop}
 use Rattle.lists.specs.Prelude.{begins}
 use Rattle.lists.specs.Prelude.{replicate, Option, none, some}
 use Rattle.gaps.specs.Gaps.{holds_gap}
@@ -179,7 +180,8 @@ stream_rises ws automaton st xs out rises = stream_writes (rises_of (patterns_of
 
 -- the state handed back
 abbrev pub stream_state : List ℕ → List ℕ → SearchState → List ℤ → List ℕ → List ℤ → SearchState
-stream_state ws automaton st xs out rises = unless (first_met (stream_conditions ws automaton st xs out rises)) (state_after st xs (stream_call ws st xs out)) st
+stream_state ws automaton st xs out rises = unless (first_met (stream_conditions ws automaton st xs out rises))
+    (state_after st xs (stream_call ws st xs out)) st
 
 -- ---- the first hit of a text: set, automaton and text. Document 02, 2.5
 

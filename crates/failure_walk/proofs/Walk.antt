@@ -1,6 +1,7 @@
 -- THE WALK OF A STEP along the failure links, node by node: what is left of the step is the step
 -- from the present node, and each link costs one attempt.
-use Rattle.lists.proofs.Prelude.{◌≡◌, ◌∙◌, ap, sym, refl, Bool, true, false, cond, List, [], ◌∷◌, ◌++◌, ℕ, suc, ◌+◌, ◌/◌, ◌%◌, ◌≤◌, ◌<◌, T, length, arith}
+use Rattle.std.specs.Prelude.{◌≡◌, ◌∷◌, ◌++◌, ◌+◌, ◌/◌, ◌%◌, ◌≤◌, ◌<◌}
+use Rattle.lists.proofs.Prelude.{◌∙◌, ap, sym, refl, Bool, true, false, cond, List, [], ℕ, suc, T, length, arith}
 use Rattle.lists.proofs.Prelude.{le_refl}
 use Rattle.lists.proofs.Tests.{T-true}
 use Rattle.lists.proofs.Parts.{length_snoc}
@@ -48,7 +49,8 @@ module _ (ps : PatternSet) (g : T (good_set ps)) (z : 0 < length ps) where
           absurd (let y : ⊥ = omega (arith, ap length r, length_snoc (head_of ps n) v) in y)
       go false t q = refl
 
-  lookup_there : (n v : ℕ) → (child_of ps n v ≡ 0 → ⊥) → (is_head ps (head_of ps n ++ (v ∷ [])) ≡ true) × (child_of ps n v ≡ node_of ps (head_of ps n ++ (v ∷ [])))
+  lookup_there : (n v : ℕ) → (child_of ps n v ≡ 0 → ⊥) → (is_head ps (head_of ps n ++ (v ∷ [])) ≡ true)
+      × (child_of ps n v ≡ node_of ps (head_of ps n ++ (v ∷ [])))
   unfolding child_of
   lookup_there n v f = go (is_head ps (head_of ps n ++ (v ∷ []))) f
     where

@@ -1,5 +1,6 @@
 -- What one step over the automaton of a set finds.
-use Rattle.lists.specs.Prelude.{◌≡◌, ℕ}
+use Rattle.std.specs.Prelude.{◌≡◌}
+use Rattle.lists.specs.Prelude.{ℕ}
 use Rattle.pattern_set.specs.PatternSet.{PatternSet}
 use Rattle.automaton_model.specs.Automaton.{head_of, node_of, advance}
 

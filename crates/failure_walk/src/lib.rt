@@ -3,7 +3,10 @@
 // short distances. The records may be made up to some node only: `made` of them are there. The
 // words of the set lie in `set`, which is only there for the contracts, and k is the number of its
 // patterns.
-ghost use Rattle.lists.specs.Prelude.{◌≡◌, ◌+◌, ◌/◌, ◌%◌, ◌≤◌, ◌<◌, length};
+#![tactic(auto)]
+
+ghost use Rattle.std.specs.Prelude.{◌≡◌, ◌+◌, ◌/◌, ◌%◌, ◌≤◌, ◌<◌};
+ghost use Rattle.lists.specs.Prelude.{length};
 ghost use Rattle.cartesian.specs.Cartesian.{cut};
 ghost use Rattle.pattern_set.specs.PatternSet.{patterns_of};
 ghost use Rattle.automaton_model.specs.Automaton.{head_of, children, first_child, entry_of};
@@ -11,7 +14,7 @@ ghost use Rattle.automaton_lookup.specs.Made.{Made};
 ghost use Rattle.failure_walk.specs.Reached.{Reached};
 
 // The node that a step leads to, and how often it looked for a child.
-#[derive(Drop)]
+#[derive(Clone, Copy)]
 pub struct Advanced {
     pub node: usize,
     pub attempts: usize,

@@ -1,8 +1,10 @@
 -- EQUAL PATTERNS: the set of the ranks whose pattern equals that of rank r grows rank by rank, ends
 -- with the patterns of one length, and is the same set for each of its members.
-use Rattle.lists.proofs.Prelude.{◌≡◌, ◌∙◌, ap, sym, refl, subst, inl, inr, ◌⊎◌, Bool, true, false, cond, not, ◌&&◌, ◌||◌, List, ◌∷◌, ℕ, ◌+◌, ◌≤◌, ◌<◌, T, eqb}
+use Rattle.std.specs.Prelude.{◌≡◌, ◌⊎◌, ◌&&◌, ◌||◌, ◌∷◌, ◌+◌, ◌≤◌, ◌<◌}
+use Rattle.lists.proofs.Prelude.{◌∙◌, ap, sym, refl, subst, inl, inr, Bool, true, false, cond, not, List, ℕ, T, eqb}
 use Rattle.lists.proofs.Prelude.{leb}
-use Rattle.lists.proofs.Prelude.{ltb, length, get_or, set, drop, get_or-set_same, get_or-set_other, ext_get_or, dec_lt, arith, eq-eqb, ne_eqb, le-leb, lt-leb, lt-ltb}
+use Rattle.lists.proofs.Prelude.{ltb, length, get_or, set, drop, get_or-set_same, get_or-set_other, ext_get_or, dec_lt, arith, eq-eqb, ne_eqb, le-leb}
+use Rattle.lists.proofs.Prelude.{lt-leb, lt-ltb}
 use Rattle.lists.proofs.Prelude.{le-ltb, same}
 use Rattle.lists.proofs.Tests.{and-true, and-false, true-T, clash}
 use Rattle.lists.proofs.Same.{same-true, same-false, true-same}

@@ -1,7 +1,8 @@
 -- EQUAL PATTERNS SIDE BY SIDE: numbers written behind others leave these as they are, and a set of
 -- ranks that has with each rank all that equal it shares none with the set of another rank.
-use Rattle.lists.proofs.Prelude.{◌≡◌, ◌∙◌, ap, sym, refl, subst, inl, inr, ◌⊎◌, Bool, true, false, cond, ◌&&◌, ◌||◌, List, ◌∷◌, ◌++◌, append_assoc, map}
-use Rattle.lists.proofs.Prelude.{ℕ, zero, suc, ◌+◌, ◌*◌, ◌/◌, ◌%◌, ◌≤◌, ◌<◌, T, ltb, length, get_or, take, drop, set, length-map}
+use Rattle.std.specs.Prelude.{◌≡◌, ◌⊎◌, ◌&&◌, ◌||◌, ◌∷◌, ◌++◌, ◌+◌, ◌*◌, ◌/◌, ◌%◌, ◌≤◌, ◌<◌}
+use Rattle.lists.proofs.Prelude.{◌∙◌, ap, sym, refl, subst, inl, inr, Bool, true, false, cond, List, append_assoc, map}
+use Rattle.lists.proofs.Prelude.{ℕ, zero, suc, T, ltb, length, get_or, take, drop, set, length-map}
 use Rattle.lists.proofs.Prelude.{length-take-le, take_at, drop_at, take-take, take-append-le, sets, sets-eq, length-sets, dec_lt, arith}
 use Rattle.lists.proofs.Prelude.{lt-ltb, same, select, tabulate, true≢false, ltb→lt, le_refl}
 use Rattle.lists.proofs.Tests.{T-true, true-T, clash, and_split, or_cases, or_left, or_right}

@@ -1,6 +1,7 @@
 -- THE CHECK BY THE WORDS: for a window that has the pattern's own fingerprint it is the check by
 -- all global parents, since the comparisons that are left out hold of it.
-use Rattle.lists.proofs.Prelude.{◌≡◌, sym, refl, subst, Bool, true, false, List, Memᴰ, ℕ, suc, ◌+◌, ◌-◌, ◌*◌, ◌/◌, ◌%◌, ◌≤◌, ◌<◌, ℤ}
+use Rattle.std.specs.Prelude.{◌≡◌, ◌+◌, ◌-◌, ◌*◌, ◌/◌, ◌%◌, ◌≤◌, ◌<◌}
+use Rattle.lists.proofs.Prelude.{sym, refl, subst, Bool, true, false, List, Memᴰ, ℕ, suc, ℤ}
 use Rattle.lists.proofs.Prelude.{T, length, get_or, dec_lt, arith, eq-eqb, ne_eqb, lt-ltb, le-ltb, last_of, tabulate, all, select}
 use Rattle.lists.proofs.Tests.{T-true, true-T, test_ext, and_split, and_join, clash}
 use Rattle.lists.proofs.Members.{all-get_or, all-mem, mem-all, mem-get_or, get_or-mem, mem-map, mem_below, all_below, below_all}
@@ -35,7 +36,8 @@ side_word : (right : Bool) (from : ℕ) (parents : List ℕ) (w : ℕ) → Mem�
     → (i : ℕ) × (i < length parents) × (is_asked right from (get_or parents i 0) i ≡ true) × (w ≡ i + 256 * get_or parents i 0)
 unfolding side_words
 side_word right from parents w m =
-    let a = (mem-map (λ i. i + 256 * get_or parents i 0) (select (λ i. is_asked right from (get_or parents i 0) i) (tabulate (length parents) (λ i. i))) w).0 m in
+    let a = (mem-map (λ i. i + 256 * get_or parents i 0) (select (λ i. is_asked right from (get_or parents i 0) i) (tabulate (length parents) (λ i. i)))
+    w).0 m in
     let b = (mem-select (λ i. is_asked right from (get_or parents i 0) i) (tabulate (length parents) (λ i. i)) a.0).0 a.1 in
     (a.0, (mem_below (length parents) a.0).0 b.0, true-T _ b.1, a.2)
 

@@ -1,6 +1,7 @@
 -- WHERE THE WORDS LIE: those of a pattern are no more than its distances, so they lie where these
 -- lie among all distances, and writing those of the next pattern leaves them as they are.
-use Rattle.lists.proofs.Prelude.{◌≡◌, ◌∙◌, ap, sym, refl, subst, ap₂, List, [], ◌++◌, append-nil, flatten, ℕ, suc, min, ◌+◌, ◌-◌, ◌*◌, ◌≤◌, ◌<◌, T, length}
+use Rattle.std.specs.Prelude.{◌≡◌, ◌++◌, ◌+◌, ◌-◌, ◌*◌, ◌≤◌, ◌<◌}
+use Rattle.lists.proofs.Prelude.{◌∙◌, ap, sym, refl, subst, ap₂, List, [], append-nil, flatten, ℕ, suc, min, T, length}
 use Rattle.lists.proofs.Prelude.{get_or}
 use Rattle.lists.proofs.Prelude.{take, drop, length-append, length-take, length-drop, length-take-le, drop_of_length-le, take_all, take_at, drop_at}
 use Rattle.lists.proofs.Prelude.{take-append-drop}

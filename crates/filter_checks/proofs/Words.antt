@@ -1,8 +1,9 @@
 -- THE WORDS OF A PATTERN'S COMPARISONS: written place by place, one side after the other, they are
 -- no more than the pattern's distances, since the root has none; so each pattern's words stay where
 -- its own distances lie.
-use Rattle.lists.proofs.Prelude.{◌≡◌, ◌∙◌, ap, sym, refl, subst, ap₂, Bool, true, false, cond, List, [], ◌∷◌, ◌++◌, map, append-nil, append_assoc}
-use Rattle.lists.proofs.Prelude.{ℕ, zero, suc, ◌+◌, ◌-◌, ◌*◌, ◌≤◌, ◌<◌, length, get_or, take, drop, set, length-append, length-take-le}
+use Rattle.std.specs.Prelude.{◌≡◌, ◌∷◌, ◌++◌, ◌+◌, ◌-◌, ◌*◌, ◌≤◌, ◌<◌}
+use Rattle.lists.proofs.Prelude.{◌∙◌, ap, sym, refl, subst, ap₂, Bool, true, false, cond, List, [], map, append-nil, append_assoc}
+use Rattle.lists.proofs.Prelude.{ℕ, zero, suc, length, get_or, take, drop, set, length-append, length-take-le}
 use Rattle.lists.proofs.Prelude.{take_at, drop_at, drop-drop, add-one, add-zero, le_refl, take-append-drop, dec_lt, arith, ne_eqb, le-ltb, tabulate, select}
 use Rattle.lists.proofs.Tests.{clash}
 use Rattle.lists.proofs.Select.{select_snoc, select_snoc_not}

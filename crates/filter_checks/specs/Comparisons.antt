@@ -2,7 +2,8 @@
 -- its global parent the pattern's own fingerprint does not decide. That of the root, which is its
 -- own parent, decides nothing; that of neighbours among the last 17 values is a bit of the
 -- fingerprint.
-use Rattle.lists.specs.Prelude.{◌≡◌, Bool, true, false, cond, ◌&&◌, List, [], ◌∷◌, ◌++◌, map, flatten, ℕ, suc, ◌+◌, ◌-◌, ◌*◌, ◌/◌, ◌%◌, ◌<◌, eqb, ltb, ℤ, pos}
+use Rattle.std.specs.Prelude.{◌≡◌, ◌&&◌, ◌∷◌, ◌++◌, ◌+◌, ◌-◌, ◌*◌, ◌/◌, ◌%◌, ◌<◌}
+use Rattle.lists.specs.Prelude.{Bool, true, false, cond, List, [], map, flatten, ℕ, suc, eqb, ltb, ℤ, pos}
 use Rattle.lists.specs.Prelude.{le_z, lt_z, length, get_or, take, drop, tabulate, all, select}
 use Rattle.global_parents.specs.GlobalParents.{global_parents}
 use Rattle.pattern_set.specs.PatternSet.{PatternSet}

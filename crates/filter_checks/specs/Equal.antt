@@ -1,6 +1,7 @@
 -- Equal patterns. A set of patterns is a u64: bit r stands for the pattern of rank r in the order
 -- of hits.
-use Rattle.lists.specs.Prelude.{◌≡◌, ◌&&◌, List, same, ℕ, ◌<◌, leb, ltb, length, get_or}
+use Rattle.std.specs.Prelude.{◌≡◌, ◌&&◌, ◌<◌}
+use Rattle.lists.specs.Prelude.{List, same, ℕ, leb, ltb, length, get_or}
 use Rattle.bit_sets.specs.BitSets.{bit_at}
 use Rattle.pattern_set.specs.PatternSet.{PatternSet}
 use Rattle.filter_tables.specs.Tables.{ranked}

@@ -1,5 +1,6 @@
 -- The numbers of equal patterns side by side. Patterns are taken by rank in the order of hits.
-use Rattle.lists.specs.Prelude.{◌≡◌, List, map, ℕ, ◌+◌, ◌/◌, ◌%◌, ◌≤◌, ◌<◌, get_or, take, drop}
+use Rattle.std.specs.Prelude.{◌≡◌, ◌+◌, ◌/◌, ◌%◌, ◌≤◌, ◌<◌}
+use Rattle.lists.specs.Prelude.{List, map, ℕ, get_or, take, drop}
 use Rattle.bit_sets.specs.BitSets.{bits}
 
 -- for each rank r below k its word tells where the numbers of the patterns that equal that of rank

@@ -1,5 +1,6 @@
 // The check of a window by the comparisons that are left to it.
-ghost use Rattle.lists.specs.Prelude.{◌≡◌, [], ◌<◌, pos, le_z, lt_z, length, get_or, all};
+ghost use Rattle.std.specs.Prelude.{◌≡◌, ◌<◌};
+ghost use Rattle.lists.specs.Prelude.{[], pos, le_z, lt_z, length, get_or, all};
 ghost use Rattle.global_parents.specs.GlobalParents.{global_parents};
 ghost use Rattle.pattern_set.specs.PatternSet.{patterns_of, IsSet};
 ghost use Rattle.filter_checks.specs.Comparisons.{Comparisons, passes_left, passes_right, WordsArePlaces, passes_words};

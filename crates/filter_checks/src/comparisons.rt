@@ -1,5 +1,6 @@
 // The comparisons that are left to the check of each pattern.
-ghost use Rattle.lists.specs.Prelude.{◌≡◌, ◌++◌, flatten, ◌+◌, ◌-◌, ◌≤◌, ◌<◌, length, take, drop};
+ghost use Rattle.std.specs.Prelude.{◌≡◌, ◌++◌, ◌+◌, ◌-◌, ◌≤◌, ◌<◌};
+ghost use Rattle.lists.specs.Prelude.{flatten, length, take, drop};
 ghost use Rattle.global_parents.specs.Passes.{ParentsArePlaces};
 ghost use Rattle.pattern_set.specs.PatternSet.{patterns_of, IsSet};
 ghost use Rattle.filter_checks.specs.Comparisons.{is_apart, is_asked, side_words, comparison_words, with_comparisons, Comparisons};

@@ -1,6 +1,7 @@
 // Equal patterns. A set of patterns is a u64: bit r stands for the pattern of rank r in the order
 // of hits.
-ghost use Rattle.lists.specs.Prelude.{◌≡◌, [], cond, same, ℕ, ◌<◌, length, get_or};
+ghost use Rattle.std.specs.Prelude.{◌≡◌, ◌<◌};
+ghost use Rattle.lists.specs.Prelude.{[], cond, same, ℕ, length, get_or};
 ghost use Rattle.bit_sets.specs.BitSets.{bit_at};
 ghost use Rattle.pattern_set.specs.PatternSet.{patterns_of, IsSet};
 ghost use Rattle.filter_tables.specs.Tables.{Ranks};

@@ -1,7 +1,8 @@
 // The numbers of equal patterns side by side, and for each pattern the word that tells where they
 // are. A set of patterns is a u64: bit r stands for the pattern of rank r in the order of hits.
+ghost use Rattle.std.specs.Prelude.{◌≡◌, ◌+◌, ◌≤◌, ◌<◌};
 ghost use Rattle.std.proofs.lemmas.List.Edits.{sets};
-ghost use Rattle.lists.specs.Prelude.{◌≡◌, cond, map, ℕ, ◌+◌, ◌≤◌, ◌<◌, length, get_or};
+ghost use Rattle.lists.specs.Prelude.{cond, map, ℕ, length, get_or};
 ghost use Rattle.bit_sets.specs.BitSets.{bit_at, bits};
 ghost use Rattle.pattern_set.specs.PatternSet.{patterns_of, IsSet};
 ghost use Rattle.filter_checks.specs.Equal.{EqualRanks};

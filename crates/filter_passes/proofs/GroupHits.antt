@@ -1,7 +1,8 @@
 -- THE HITS OF A PLACE, GROUP BY GROUP: of the ranks that are left to check, those with a hit are
 -- the members of the first group that has one, in their order, and then those of the rest.
-use Rattle.lists.proofs.Prelude.{◌≡◌, ◌∙◌, ap, sym, refl, subst, ap₂, Bool, true, false, ◌&&◌, ◌||◌, List, [], ◌∷◌, ◌++◌, append-nil, append_assoc, map, ℕ}
-use Rattle.lists.proofs.Prelude.{zero, suc, ◌≤◌, ◌<◌, ℤ, T, leb, leb→le, ltb, ltb-true, pos, length, get_or, take, length-take-le, arith, lt-ltb, tabulate}
+use Rattle.std.specs.Prelude.{◌≡◌, ◌&&◌, ◌||◌, ◌∷◌, ◌++◌, ◌≤◌, ◌<◌}
+use Rattle.lists.proofs.Prelude.{◌∙◌, ap, sym, refl, subst, ap₂, Bool, true, false, List, [], append-nil, append_assoc, map, ℕ}
+use Rattle.lists.proofs.Prelude.{zero, suc, ℤ, T, leb, leb→le, ltb, ltb-true, pos, length, get_or, take, length-take-le, arith, lt-ltb, tabulate}
 use Rattle.lists.proofs.Prelude.{select, last_of, same, Memᴰ}
 use Rattle.lists.proofs.Tests.{and_split, T-true, true-T, clash}
 use Rattle.lists.proofs.Parts.{map-append}
@@ -110,7 +111,8 @@ module _ (ps : PatternSet) (text : List ℤ) (p : ℕ) (numbers : List ℕ) (goo
         (λ s h. either s (small s h) h (bit_at members s) refl (bit_at rest s) refl (bit_at left s) refl)
         (λ s t h k u v. (group.behind t (small t k) (and_split (bit_at rest t) (is_hit front (ranked ps t)) v).0).1 s (small s h) (subst T (sym (is s h)) u)))
         ∙ map-append (λ s. (p, get_or numbers s 0)) (select a (tabulate (length ps) (λ s. s))) (hit_ranks ps text p rest)
-        ∙ ap (λ (l : List ℕ). rank_hits numbers p l ++ hits_of ps text p numbers rest) (sym (bits_below_lem members (length ps) a (good_set_parts ps good).0 equal))
+        ∙ ap (λ (l : List ℕ). rank_hits numbers p l ++ hits_of ps text p numbers rest)
+        (sym (bits_below_lem members (length ps) a (good_set_parts ps good).0 equal))
       where
         -- a member is a rank of an equal pattern
         is : (s : ℕ) → s < length ps → bit_at members s ≡ same (ranked ps r) (ranked ps s)

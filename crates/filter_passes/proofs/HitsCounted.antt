@@ -1,6 +1,7 @@
 -- HITS COUNTED PLACE BY PLACE: with the hits that are still to come, what has been counted is at
 -- least as many as there are, and exactly as many where no candidates were trusted.
-use Rattle.lists.proofs.Prelude.{◌≡◌, ◌∙◌, ap, Bool, true, false, not, List, ℕ, ◌+◌, ◌*◌, ◌≤◌, ◌<◌, ℤ, T, length, length-append, not-true, arith}
+use Rattle.std.specs.Prelude.{◌≡◌, ◌+◌, ◌*◌, ◌≤◌, ◌<◌}
+use Rattle.lists.proofs.Prelude.{◌∙◌, ap, Bool, true, false, not, List, ℕ, ℤ, T, length, length-append, not-true, arith}
 use Rattle.pattern_set.specs.PatternSet.{PatternSet, good_set}
 use Rattle.matching.specs.Matching.{hits_at, hits}
 use Rattle.filter_passes.specs.Passes.{rest_hits, NoneFrom}

@@ -1,8 +1,9 @@
 -- THE LIST OF HITS, PART BY PART: place by place and block by block from the front, and the words
 -- and rises that have been written when a part is still to come. A block that is not marked has no
 -- hit.
-use Rattle.lists.proofs.Prelude.{◌≡◌, ◌∙◌, ap, sym, refl, subst, ap₂, false, List, [], ◌∷◌, ◌++◌, map, append-nil, append_assoc, flatten, ℕ, zero, suc, min}
-use Rattle.lists.proofs.Prelude.{◌+◌, ◌-◌, ◌*◌, ◌/◌, ◌≤◌, ◌<◌, ℤ, T, length, drop, set, length-append, length-map, sets, sets-eq, add-zero, add-mul, add-one}
+use Rattle.std.specs.Prelude.{◌≡◌, ◌∷◌, ◌++◌, ◌+◌, ◌-◌, ◌*◌, ◌/◌, ◌≤◌, ◌<◌}
+use Rattle.lists.proofs.Prelude.{◌∙◌, ap, sym, refl, subst, ap₂, false, List, [], map, append-nil, append_assoc, flatten, ℕ, zero, suc, min}
+use Rattle.lists.proofs.Prelude.{ℤ, T, length, drop, set, length-append, length-map, sets, sets-eq, add-zero, add-mul, add-one}
 use Rattle.lists.proofs.Prelude.{arith, tabulate}
 use Rattle.lists.proofs.Parts.{map-append}
 use Rattle.lists.proofs.Tables.{tabulate_ext, tabulate-cons}
@@ -65,7 +66,8 @@ unfolding hits_from hits
 hits_all ps text =
     let e : length text - 0 ≡ length text = omega arith in
     ap (λ (n : ℕ). flatten (tabulate n (λ i. hits_at ps text (0 + i)))) e
-    ∙ ap flatten (tabulate_ext (length text) (λ i. hits_at ps text (0 + i)) (hits_at ps text) (λ i h. ap (hits_at ps text) (let z : 0 + i ≡ i = omega arith in z)))
+    ∙ ap flatten (tabulate_ext (length text) (λ i. hits_at ps text (0 + i)) (hits_at ps text)
+    (λ i h. ap (hits_at ps text) (let z : 0 + i ≡ i = omega arith in z)))
 
 -- no more hits than patterns at every place
 hits_from_count : (ps : PatternSet) (text : List ℤ) (a n : ℕ) → T (good_set ps) → length (hits_from ps text a n) ≤ n * length ps

@@ -1,5 +1,6 @@
 -- MARKS: a bit stored for a block marks it and takes no other mark away.
-use Rattle.lists.proofs.Prelude.{◌≡◌, ◌∙◌, ap, sym, refl, subst, Bool, true, false, ◌||◌, List, ℕ, ◌/◌, ◌%◌, ◌<◌, T, eqb, eqb_refl, length, get_or, set}
+use Rattle.std.specs.Prelude.{◌≡◌, ◌||◌, ◌/◌, ◌%◌, ◌<◌}
+use Rattle.lists.proofs.Prelude.{◌∙◌, ap, sym, refl, subst, Bool, true, false, List, ℕ, T, eqb, eqb_refl, length, get_or, set}
 use Rattle.lists.proofs.Prelude.{length-set, get_or-set_same, get_or-set_other, arith, eqb-true, eqb-false}
 use Rattle.lists.proofs.Tests.{or_left, or_right}
 use Rattle.bit_sets.specs.BitSets.{bit_at}
@@ -16,13 +17,15 @@ module _ (marks : List ℕ) (w i v : ℕ) (inside : w < length marks) (bit : i <
           let e = eqb-true (block / 64) w q in
           let j = block % 64 in
           subst T
-          (sym (ap (λ (x : ℕ). bit_at (get_or (set marks w v) x 0) j) e ∙ ap (λ (x : ℕ). bit_at x j) (get_or-set_same marks w v 0 inside) ∙ stored j (omega arith)))
+          (sym (ap (λ (x : ℕ). bit_at (get_or (set marks w v) x 0) j) e ∙ ap (λ (x : ℕ). bit_at x j) (get_or-set_same marks w v 0 inside)
+          ∙ stored j (omega arith)))
           (or_right (eqb j i) (bit_at (get_or marks w 0) j) (subst (λ (x : ℕ). T (bit_at (get_or marks x 0) j)) e t))
       go false q = subst T (sym (ap (λ (x : ℕ). bit_at x (block % 64)) (get_or-set_other marks w (block / 64) v 0 (eqb-false (block / 64) w q)))) t
 
   is_set : T (bit_at (get_or (set marks w v) w 0) i)
   is_set =
-      subst T (sym (ap (λ (x : ℕ). bit_at x i) (get_or-set_same marks w v 0 inside) ∙ stored i bit)) (or_left (eqb i i) (bit_at (get_or marks w 0) i) (eqb_refl i))
+      subst T (sym (ap (λ (x : ℕ). bit_at x i) (get_or-set_same marks w v 0 inside) ∙ stored i bit))
+      (or_left (eqb i i) (bit_at (get_or marks w 0) i) (eqb_refl i))
 
 -- the bit of the block of place p is stored
 pub mark_set : (marks : List ℕ) (p found v : ℕ) → p / 64 / 64 < length marks

@@ -1,7 +1,8 @@
 -- THE PATTERNS OF A PLACE, BY RANK: the members of a set of ranks, in their order, are the patterns
 -- that pass its test in the order of the hits; so they are the place's hits, and as many as its
 -- candidates. A place without candidates has no hit, and a gap has no candidates.
-use Rattle.lists.proofs.Prelude.{◌≡◌, ◌∙◌, ap, sym, refl, subst, Bool, true, false, ◌&&◌, List, [], ◌∷◌, map, flatten, ℕ, suc, ◌+◌, ◌/◌, ◌≤◌, ◌<◌, ℤ, pos, T}
+use Rattle.std.specs.Prelude.{◌≡◌, ◌&&◌, ◌∷◌, ◌+◌, ◌/◌, ◌≤◌, ◌<◌}
+use Rattle.lists.proofs.Prelude.{◌∙◌, ap, sym, refl, subst, Bool, true, false, List, [], map, flatten, ℕ, suc, ℤ, pos, T}
 use Rattle.lists.proofs.Prelude.{ltb, length, get_or, take, drop, length-append, length-map, length-take-le, length-drop, dec_lt, arith, lt-leb, lt-ltb, le-ltb}
 use Rattle.lists.proofs.Prelude.{ltb-true, tabulate, select, drop-cons, drop_of_length-le, add-one}
 use Rattle.lists.proofs.Tests.{and-false, and_split, and_join, T-true, true-T}

@@ -1,7 +1,8 @@
 -- A PASS OVER THE TEXT, PLACE BY PLACE: the fingerprint, the place where the samples begin and the
 -- count that every pass keeps. The patterns that a look with the set fingerprint finds at a
 -- place are its candidates.
-use Rattle.lists.proofs.Prelude.{◌≡◌, ◌∙◌, ap, sym, refl, subst, List, ℕ, suc, ◌+◌, ◌-◌, ◌*◌, ◌^◌, ◌≤◌, ◌<◌, ℤ, T, length, take}
+use Rattle.std.specs.Prelude.{◌≡◌, ◌+◌, ◌-◌, ◌*◌, ◌^◌, ◌≤◌, ◌<◌}
+use Rattle.lists.proofs.Prelude.{◌∙◌, ap, sym, refl, subst, List, ℕ, suc, ℤ, T, length, take}
 use Rattle.lists.proofs.Prelude.{zero, zero-mod, add-one, dec_lt, arith}
 use Rattle.bit_sets.specs.BitSets.{bits}
 use Rattle.bit_sets.proofs.Laws.{bits-zero, size_le}

@@ -1,6 +1,7 @@
 -- A LIST THAT IS WRITTEN PART BY PART, and the rises over its hits with it: what has been written,
 -- with the words and the rises of the hits that are still to come behind it, is the whole list.
-use Rattle.lists.proofs.Prelude.{◌≡◌, ◌∙◌, ap, sym, refl, List, [], ◌∷◌, ◌++◌, map, ℕ, suc, ◌+◌, ◌-◌, ◌*◌, ◌≤◌, ◌<◌, ℤ, T, length, take, set, length-append}
+use Rattle.std.specs.Prelude.{◌≡◌, ◌∷◌, ◌++◌, ◌+◌, ◌-◌, ◌*◌, ◌≤◌, ◌<◌}
+use Rattle.lists.proofs.Prelude.{◌∙◌, ap, sym, refl, List, [], map, ℕ, suc, ℤ, T, length, take, set, length-append}
 use Rattle.lists.proofs.Prelude.{sets, length-sets, add-one, arith}
 use Rattle.bit_sets.specs.BitSets.{bits}
 use Rattle.pattern_set.specs.PatternSet.{PatternSet, good_set}

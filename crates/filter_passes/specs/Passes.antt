@@ -1,5 +1,6 @@
 -- What the passes of a filter search find, and what they leave behind.
-use Rattle.lists.specs.Prelude.{◌≡◌, Bool, List, map, flatten, ℕ, suc, ◌+◌, ◌-◌, ◌/◌, ◌%◌, ◌≤◌, ◌<◌, T, ℤ, length, get_or, take, tabulate, select}
+use Rattle.std.specs.Prelude.{◌≡◌, ◌+◌, ◌-◌, ◌/◌, ◌%◌, ◌≤◌, ◌<◌}
+use Rattle.lists.specs.Prelude.{Bool, List, map, flatten, ℕ, suc, T, ℤ, length, get_or, take, tabulate, select}
 use Rattle.bit_sets.specs.BitSets.{bit_at}
 use Rattle.pattern_set.specs.PatternSet.{PatternSet}
 use Rattle.matching.specs.Matching.{hits_at, shortest, is_candidate}

@@ -1,6 +1,7 @@
 // The first pass over the text: it counts the candidates and the hits, and marks the blocks of 64
 // places with a hit.
-ghost use Rattle.lists.specs.Prelude.{◌≡◌, true, false, ◌&&◌, suc, ◌+◌, ◌≤◌, ◌<◌, leb, eqb, length, take};
+ghost use Rattle.std.specs.Prelude.{◌≡◌, ◌&&◌, ◌+◌, ◌≤◌, ◌<◌};
+ghost use Rattle.lists.specs.Prelude.{true, false, suc, leb, eqb, length, take};
 ghost use Rattle.pattern_set.specs.PatternSet.{patterns_of, IsSet};
 ghost use Rattle.matching.specs.Matching.{hits_at, hits, shortest, is_candidate, candidates};
 ghost use Rattle.filter_plan.specs.Plan.{text_fingerprint};
@@ -13,7 +14,7 @@ use crate::scanning::next_stop;
 
 // What the first pass has counted: the candidates, and at least as many hits as there are; exactly
 // as many if exact.
-#[derive(Drop)]
+#[derive(Clone, Copy)]
 pub struct Counted {
     pub candidates: usize,
     pub hits: usize,

@@ -2,6 +2,8 @@
 // candidates and writes the hits, or two, of which the first counts the candidates and the hits and
 // marks the blocks of places that have hits, and the second writes the hits, or counts them where
 // the first did not count exactly.
+#![tactic(auto)]
+
 pub mod counting;
 pub mod listing;
 mod marks;

@@ -1,7 +1,8 @@
 // The second pass, over the marked blocks only: it counts the hits, or writes them and the rises
 // over them.
+ghost use Rattle.std.specs.Prelude.{◌≡◌, ◌+◌, ◌-◌, ◌*◌, ◌≤◌, ◌<◌};
 ghost use Rattle.std.proofs.lemmas.List.Edits.{sets};
-ghost use Rattle.lists.specs.Prelude.{◌≡◌, map, min, ◌+◌, ◌-◌, ◌*◌, ◌≤◌, ◌<◌, length};
+ghost use Rattle.lists.specs.Prelude.{map, min, length};
 ghost use Rattle.pattern_set.specs.PatternSet.{patterns_of, IsSet};
 ghost use Rattle.matching.specs.Matching.{hits, hit_words};
 ghost use Rattle.matching.specs.Rise.{rise_in};
@@ -21,7 +22,7 @@ fn block_end(first: usize, n: usize) -> usize
 }
 
 // How many hits a block has, and where the samples behind the last gap up to its end begin.
-#[derive(Drop)]
+#[derive(Clone, Copy)]
 struct Counted {
     hits: usize,
     begin: usize,
@@ -119,7 +120,7 @@ pub fn count_hits(
 }
 
 // The hit behind those of a block, and where the samples behind the last gap up to its end begin.
-#[derive(Drop)]
+#[derive(Clone, Copy)]
 struct Listed {
     to: usize,
     begin: usize,

@@ -1,5 +1,6 @@
 // The marks: a bit for each block of 64 places.
-ghost use Rattle.lists.specs.Prelude.{◌≡◌, ◌<◌, length};
+ghost use Rattle.std.specs.Prelude.{◌≡◌, ◌<◌};
+ghost use Rattle.lists.specs.Prelude.{length};
 ghost use Rattle.filter_passes.specs.Passes.{is_marked, MarkedIf};
 
 // Whether the block is marked.

@@ -1,7 +1,8 @@
 // The hits of one place: the likely patterns are checked group by group, and those of a group that
 // has a hit are written, with the rise over them, which is one for a group.
+ghost use Rattle.std.specs.Prelude.{◌≡◌, ◌+◌, ◌*◌, ◌≤◌, ◌<◌};
 ghost use Rattle.std.proofs.lemmas.List.Edits.{sets};
-ghost use Rattle.lists.specs.Prelude.{◌≡◌, map, suc, ◌+◌, ◌*◌, ◌≤◌, ◌<◌, length, get_or, take};
+ghost use Rattle.lists.specs.Prelude.{map, suc, length, get_or, take};
 ghost use Rattle.bit_sets.specs.BitSets.{bits};
 ghost use Rattle.pattern_set.specs.PatternSet.{patterns_of, IsSet};
 ghost use Rattle.matching.specs.Matching.{hits_at, hit_words};

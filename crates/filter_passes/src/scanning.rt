@@ -1,5 +1,6 @@
 // From a place of a text on to the next one that may have candidates.
-ghost use Rattle.lists.specs.Prelude.{◌≡◌, true, suc, ◌≤◌, ◌<◌, pos, length, get_or, take};
+ghost use Rattle.std.specs.Prelude.{◌≡◌, ◌≤◌, ◌<◌};
+ghost use Rattle.lists.specs.Prelude.{true, suc, pos, length, get_or, take};
 ghost use Rattle.gaps.specs.Gaps.{is_gap};
 ghost use Rattle.pattern_set.specs.PatternSet.{patterns_of, IsSet};
 ghost use Rattle.matching.specs.Matching.{shortest, is_candidate};
@@ -9,7 +10,7 @@ ghost use Rattle.filter_passes.specs.Passes.{Stands, NoneFrom};
 
 // A gap, a place whose set fingerprint some patterns have, or the place behind the text: with the
 // fingerprint of the last 17 values up to it, and those patterns.
-#[derive(Drop)]
+#[derive(Clone, Copy)]
 struct Look {
     place: usize,
     own: u32,
@@ -18,7 +19,7 @@ struct Look {
 
 // A place with its candidates, or the one behind the text: own is the fingerprint of the last 17
 // values up to it, and begin is where the samples behind the last gap begin.
-#[derive(Drop)]
+#[derive(Clone, Copy)]
 pub(crate) struct Stop {
     pub(crate) place: usize,
     pub(crate) own: u32,

@@ -1,7 +1,8 @@
 // One pass, for an array that has room for every pattern at every place: it counts the candidates
 // and writes the hits and the rises over them place by place.
+ghost use Rattle.std.specs.Prelude.{◌≡◌, ◌*◌, ◌≤◌};
 ghost use Rattle.std.proofs.lemmas.List.Edits.{sets};
-ghost use Rattle.lists.specs.Prelude.{◌≡◌, map, ◌*◌, ◌≤◌, length};
+ghost use Rattle.lists.specs.Prelude.{map, length};
 ghost use Rattle.pattern_set.specs.PatternSet.{patterns_of, IsSet};
 ghost use Rattle.matching.specs.Matching.{hits, hit_words, candidates};
 ghost use Rattle.matching.specs.Rise.{rise_in};
@@ -12,7 +13,7 @@ use crate::place::write_place;
 use crate::scanning::next_stop;
 
 // What a pass has counted.
-#[derive(Drop)]
+#[derive(Clone, Copy)]
 pub struct Counts {
     pub hits: usize,
     pub candidates: usize,

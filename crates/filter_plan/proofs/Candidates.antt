@@ -1,6 +1,7 @@
 -- THE CANDIDATES of a place are as many in the order of the hits as in the order of the set, and no
 -- fewer than the hits: each hit is one.
-use Rattle.lists.proofs.Prelude.{◌≡◌, ◌∙◌, ap, sym, Bool, List, [], ℕ, ◌≤◌, ℤ, T, length, get_or, select}
+use Rattle.std.specs.Prelude.{◌≡◌, ◌≤◌}
+use Rattle.lists.proofs.Prelude.{◌∙◌, ap, sym, Bool, List, [], ℕ, ℤ, T, length, get_or, select}
 use Rattle.lists.proofs.Members.{get_or-mem}
 use Rattle.lists.proofs.Tables.{tabulate-get_or}
 use Rattle.lists.proofs.Counting.{how_many, length-how_many, how_many-tabulate, how_many-le}

@@ -1,8 +1,9 @@
 -- THE TWO LOOKS AND THE CHECK: a pattern with a hit at the end of a text is likely there and a
 -- candidate there, as values with equal trees have equal fingerprints; and the comparisons with the
 -- global parents decide whether a window that holds no gap has the pattern's tree.
-use Rattle.lists.proofs.Prelude.{◌≡◌, ◌∙◌, ap, sym, refl, subst, inl, inr, ◌⊎◌, false, not, List, [], ◌∷◌, Memᴰ, Memᴰ-head, Memᴰ-tail}
-use Rattle.lists.proofs.Prelude.{Memᴰ-not-nil, Memᴰ-cases_cons, ℕ, min, ◌-◌, ◌%◌, ◌^◌, ◌≤◌, ℤ, T, eqb, leb, eqb→eq, leb→le, eqb_refl, length, le_refl}
+use Rattle.std.specs.Prelude.{◌≡◌, ◌⊎◌, ◌∷◌, ◌-◌, ◌%◌, ◌^◌, ◌≤◌}
+use Rattle.lists.proofs.Prelude.{◌∙◌, ap, sym, refl, subst, inl, inr, false, not, List, [], Memᴰ, Memᴰ-head, Memᴰ-tail}
+use Rattle.lists.proofs.Prelude.{Memᴰ-not-nil, Memᴰ-cases_cons, ℕ, min, ℤ, T, eqb, leb, eqb→eq, leb→le, eqb_refl, length, le_refl}
 use Rattle.lists.proofs.Prelude.{le_trans, min-le_left, le-min, min-le_right, last_of}
 use Rattle.lists.proofs.Tests.{and_split, and_join, test_ext}
 use Rattle.lists.proofs.Parts.{last_of-last_of}

@@ -1,7 +1,8 @@
 -- WHAT THE OWN FINGERPRINT DECIDES: a window that has the pattern's own fingerprint passes the
 -- comparisons of neighbours among its last 17 values, since the pattern's least realization passes
 -- them and both rise and fall at the same places.
-use Rattle.lists.proofs.Prelude.{◌≡◌, ◌∙◌, ap, sym, refl, subst, ap₂, List, ℕ, suc, min, ◌+◌, ◌-◌, ◌≤◌, ◌<◌, ℤ, pos, le_z, le_z_yes, ≤ℤ_refl, T, length, get_or}
+use Rattle.std.specs.Prelude.{◌≡◌, ◌+◌, ◌-◌, ◌≤◌, ◌<◌}
+use Rattle.lists.proofs.Prelude.{◌∙◌, ap, sym, refl, subst, ap₂, List, ℕ, suc, min, ℤ, pos, le_z, le_z_yes, ≤ℤ_refl, T, length, get_or}
 use Rattle.lists.proofs.Prelude.{get_or-drop, le_refl, min-le_right, arith, last_of}
 use Rattle.lists.proofs.Tests.{T-true}
 use Rattle.lists.proofs.Order.{le-le_z, lt-le_z, le_z_above}

@@ -1,6 +1,7 @@
 -- THE ANSWER of a filter search, for each way through the entry: the first refusal that is met, and
 -- else the counts and the list.
-use Rattle.lists.proofs.Prelude.{◌≡◌, ◌∙◌, ap, sym, refl, ap₂, true, false, List, map, ℕ, ◌*◌, ◌≤◌, ◌<◌, ℤ, leb, length, sets, arith, le-leb, lt-leb, lt-ltb}
+use Rattle.std.specs.Prelude.{◌≡◌, ◌*◌, ◌≤◌, ◌<◌}
+use Rattle.lists.proofs.Prelude.{◌∙◌, ap, sym, refl, ap₂, true, false, List, map, ℕ, ℤ, leb, length, sets, arith, le-leb, lt-leb, lt-ltb}
 use Rattle.lists.proofs.Prelude.{le-ltb, leb-true, leb-false}
 use Rattle.answers.specs.declared.Refusal.{Refusal}
 use Rattle.answers.specs.Told.{number}

@@ -1,6 +1,7 @@
 -- The answer of a filter search over a good set and a text that is not too long, with a second
 -- array that is long enough.
-use Rattle.lists.specs.Prelude.{List, [], ◌∷◌, map, ℕ, ◌*◌, ltb, ℤ, length}
+use Rattle.std.specs.Prelude.{◌∷◌, ◌*◌}
+use Rattle.lists.specs.Prelude.{List, [], map, ℕ, ltb, ℤ, length}
 use Rattle.pattern_set.specs.PatternSet.{PatternSet}
 use Rattle.matching.specs.Matching.{hits, hit_words, candidates}
 use Rattle.matching.specs.Rise.{rise_in}

@@ -1,5 +1,8 @@
 // The filter search. Document 01: A tail search. Document 02, 2.6 and 2.7.
-ghost use Rattle.lists.specs.Prelude.{◌≡◌, true, ◌*◌, ◌≤◌, T, leb, length};
+#![tactic(auto)]
+
+ghost use Rattle.std.specs.Prelude.{◌≡◌, ◌*◌, ◌≤◌};
+ghost use Rattle.lists.specs.Prelude.{true, T, leb, length};
 ghost use Rattle.answers.specs.Told.{told_filtered};
 ghost use Rattle.pattern_set.specs.PatternSet.{patterns_of, IsSet, may_search};
 ghost use Rattle.matching.specs.Matching.{hits, candidates};

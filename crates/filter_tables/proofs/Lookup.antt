@@ -1,8 +1,9 @@
 -- WHAT THE TABLES TELL at the end of a text: the sets at the bytes of a fingerprint have in common
 -- the patterns that have the whole fingerprint, so with the set of those whose windows fit they
 -- have the candidates there, and the own tables the likely patterns.
-use Rattle.lists.proofs.Prelude.{◌≡◌, ◌∙◌, ap, sym, refl, ap₂, Bool, true, false, ◌&&◌, List, [], ◌∷◌, map, append-nil, Memᴰ, ℕ, zero, suc, min, ◌+◌, ◌-◌}
-use Rattle.lists.proofs.Prelude.{◌/◌, ◌%◌, ◌^◌, ◌≤◌, ◌<◌, ℤ, T, eqb, leb, ltb, eqb→eq, ltb→lt, length, get_or, pow_mono, field, mod-lt, mod-eq_of_lt, min-le_left}
+use Rattle.std.specs.Prelude.{◌≡◌, ◌&&◌, ◌∷◌, ◌+◌, ◌-◌, ◌/◌, ◌%◌, ◌^◌, ◌≤◌, ◌<◌}
+use Rattle.lists.proofs.Prelude.{◌∙◌, ap, sym, refl, ap₂, Bool, true, false, List, [], map, append-nil, Memᴰ, ℕ, zero, suc, min}
+use Rattle.lists.proofs.Prelude.{ℤ, T, eqb, leb, ltb, eqb→eq, ltb→lt, length, get_or, pow_mono, field, mod-lt, mod-eq_of_lt, min-le_left}
 use Rattle.lists.proofs.Prelude.{lt_of_lt_of_le, le-min, dec_lt, arith, eq-eqb, le-leb, lt-leb, lt-ltb, le-ltb, tabulate, select}
 use Rattle.lists.proofs.Tests.{and_split, and_join, test_ext, T-true, and_comm, eqb_comm}
 use Rattle.lists.proofs.Tables.{tabulate-get_or, map-tabulate}
@@ -189,7 +190,8 @@ bits_ranks ps m test h f = bits_by m (λ r. ltb r (length ps) && test (ranked ps
 
 -- their pattern numbers are, in the order of hits, those that pass
 pub ranks_order : (ps : PatternSet) (test : List ℕ → Bool) → T (good_set ps)
-    → map (λ r. get_or (hit_order ps) r 0) (select (λ r. test (ranked ps r)) (tabulate (length ps) (λ r. r))) ≡ select (λ j. test (get_or ps j [])) (hit_order ps)
+    → map (λ r. get_or (hit_order ps) r 0) (select (λ r. test (ranked ps r)) (tabulate (length ps) (λ r. r)))
+    ≡ select (λ j. test (get_or ps j [])) (hit_order ps)
 ranks_order ps test g =
     let at : ℕ → ℕ = λ r. get_or (hit_order ps) r 0 in
     sym (select-map (λ j. test (get_or ps j [])) at (tabulate (length ps) (λ r. r)))

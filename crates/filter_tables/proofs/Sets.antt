@@ -1,6 +1,7 @@
 -- FILLING A TABLE OF SETS: a rank added at the places that pass its pattern's test makes a table
 -- that holds the ranks below r one that holds those below r + 1.
-use Rattle.lists.proofs.Prelude.{◌≡◌, ◌∙◌, ap, sym, refl, ap₂, Bool, true, false, ◌&&◌, ◌||◌, List, ℕ, ◌+◌, ◌<◌, eqb, ltb, length, get_or}
+use Rattle.std.specs.Prelude.{◌≡◌, ◌&&◌, ◌||◌, ◌+◌, ◌<◌}
+use Rattle.lists.proofs.Prelude.{◌∙◌, ap, sym, refl, ap₂, Bool, true, false, List, ℕ, eqb, ltb, length, get_or}
 use Rattle.lists.proofs.Prelude.{set, replicate, get_or-replicate, get_or-set_same, get_or-set_other, dec_lt, arith, eq-eqb, ne_eqb, lt-ltb, le-ltb}
 use Rattle.lists.proofs.Tests.{and-false, and-true, or-false}
 use Rattle.bit_sets.specs.BitSets.{bit_at}

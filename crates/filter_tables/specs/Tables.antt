@@ -1,6 +1,7 @@
 -- What the tables of a filter search hold. A set of patterns is a u64: bit r stands for the pattern
 -- of rank r in the order of hits.
-use Rattle.lists.specs.Prelude.{◌≡◌, Bool, ◌&&◌, List, [], ℕ, suc, min, ◌-◌, ◌/◌, ◌%◌, ◌^◌, ◌<◌, eqb, leb, ltb, length, get_or}
+use Rattle.std.specs.Prelude.{◌≡◌, ◌&&◌, ◌-◌, ◌/◌, ◌%◌, ◌^◌, ◌<◌}
+use Rattle.lists.specs.Prelude.{Bool, List, [], ℕ, suc, min, eqb, leb, ltb, length, get_or}
 use Rattle.bit_sets.specs.BitSets.{bit_at}
 use Rattle.pattern_set.specs.PatternSet.{PatternSet}
 use Rattle.filter_plan.specs.Plan.{hit_order, pattern_fingerprint, own_length}

@@ -1,6 +1,7 @@
 -- GROUPS OF EQUAL PATTERNS: those left are checked one by one, and each answer is that of all equal
 -- patterns; a hit settles all patterns of its length.
-use Rattle.lists.proofs.Prelude.{◌≡◌, ◌∙◌, ap, sym, refl, subst, ap₂, Bool, true, false, not, ◌&&◌, List, ℕ, min, ◌-◌, ◌^◌, ◌≤◌, ◌<◌, ℤ, T, leb, ltb}
+use Rattle.std.specs.Prelude.{◌≡◌, ◌&&◌, ◌-◌, ◌^◌, ◌≤◌, ◌<◌}
+use Rattle.lists.proofs.Prelude.{◌∙◌, ap, sym, refl, subst, ap₂, Bool, true, false, not, List, ℕ, min, ℤ, T, leb, ltb}
 use Rattle.lists.proofs.Prelude.{leb→le, length, get_or, dec_lt, arith, leb-false, lt-ltb, ltb-true, same}
 use Rattle.lists.proofs.Tests.{and_split, and_join, T-true, true-T, test_ext, clash}
 use Rattle.lists.proofs.Same.{same_eq, same-true}

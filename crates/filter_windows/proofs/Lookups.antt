@@ -1,7 +1,8 @@
 -- WHAT A LOOK INTO THE TABLES FINDS at a place, for as many samples as there are behind the last
 -- gap: by the fingerprint of b values the candidates, by the fingerprint of 17 values the likely
 -- patterns.
-use Rattle.lists.proofs.Prelude.{◌≡◌, ◌∙◌, ap, sym, refl, subst, ap₂, Bool, true, false, ◌&&◌, List, [], ℕ, suc, min, ◌-◌, ◌/◌, ◌%◌, ◌≤◌, ◌<◌, ℤ}
+use Rattle.std.specs.Prelude.{◌≡◌, ◌&&◌, ◌-◌, ◌/◌, ◌%◌, ◌≤◌, ◌<◌}
+use Rattle.lists.proofs.Prelude.{◌∙◌, ap, sym, refl, subst, ap₂, Bool, true, false, List, [], ℕ, suc, min, ℤ}
 use Rattle.lists.proofs.Prelude.{T, eqb, ltb, length, get_or, take, arith, lt-ltb, ltb-true}
 use Rattle.lists.proofs.Tests.{and-false, and_split, and_join, test_ext}
 use Rattle.lists.proofs.Members.{get_or-mem}
@@ -70,9 +71,9 @@ module _ (ps : PatternSet) (text : List ℤ) (p begin n : ℕ) (good : T (good_s
       ∙ own_bit ps front good n (samples_fit text p begin n lt since n≡) lowbyte highbyte fits k.by_low k.by_high k.by_place r h
 
 -- the tables of a fingerprint of b values, where b is the length of the set fingerprint
-pub set_tables : (ps : PatternSet) (b : ℕ) (lowbyte highbyte fits : List ℕ) → b ≡ shortest 17 ps → TableOf ps (set_low b) lowbyte
+pub set-tables : (ps : PatternSet) (b : ℕ) (lowbyte highbyte fits : List ℕ) → b ≡ shortest 17 ps → TableOf ps (set_low b) lowbyte
     → TableOf ps (set_high b) highbyte → TableOf ps fits_at fits → SetTables ps lowbyte highbyte fits
-set_tables ps b lowbyte highbyte fits e l h f = record {
+set-tables ps b lowbyte highbyte fits e l h f = record {
   by_low = subst (λ (m : ℕ). TableOf ps (set_low m) lowbyte) e l;
   by_high = subst (λ (m : ℕ). TableOf ps (set_high m) highbyte) e h;
   by_place = f;

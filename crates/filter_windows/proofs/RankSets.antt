@@ -1,6 +1,7 @@
 -- SETS OF PATTERNS BY RANK: the likely patterns are checked group by group, and what is found are
 -- those with a hit.
-use Rattle.lists.proofs.Prelude.{◌≡◌, ◌∙◌, ap, sym, refl, subst, Bool, true, false, not, ◌&&◌, ◌||◌, List, ℕ, ◌<◌, ℤ, T, ltb}
+use Rattle.std.specs.Prelude.{◌≡◌, ◌&&◌, ◌||◌, ◌<◌}
+use Rattle.lists.proofs.Prelude.{◌∙◌, ap, sym, refl, subst, Bool, true, false, not, List, ℕ, ℤ, T, ltb}
 use Rattle.lists.proofs.Prelude.{length, get_or, arith, lt-ltb, ltb-true}
 use Rattle.lists.proofs.Tests.{and_split, and_join, T-true, true-T, or-false, clash}
 use Rattle.bit_sets.specs.BitSets.{bit_at}
@@ -14,8 +15,8 @@ use Rattle.filter_windows.specs.Looks.{SetOf}
 use Rattle.filter_windows.specs.Groups.{LikelyGroups, NoneHit, HitGroup}
 
 -- with a likely pattern all that equal it are likely
-pub likely_groups : (ps : PatternSet) (text : List ℤ) (likely : ℕ) → SetOf ps (is_likely text) likely → LikelyGroups ps text likely
-likely_groups ps text likely l r h t =
+pub likely-groups : (ps : PatternSet) (text : List ℤ) (likely : ℕ) → SetOf ps (is_likely text) likely → LikelyGroups ps text likely
+likely-groups ps text likely l r h t =
     let s = and_split (ltb r (length ps)) (is_likely text (ranked ps r)) (subst T (l r h) t) in (
       ltb-true r (length ps) (true-T (ltb r (length ps)) s.0),
       s.1,
@@ -28,7 +29,8 @@ likely_groups ps text likely l r h t =
 
 -- what is found of the likely set when rest is left to check
 abbrev pub Found : ℕ → ℕ → ℕ → (ℕ → Bool) → Type 0
-Found likely rest found hit = (j : ℕ) → j < 64 → (bit_at found j ≡ (bit_at likely j && (not (bit_at rest j) && hit j))) × (T (bit_at rest j) → T (bit_at likely j))
+Found likely rest found hit = (j : ℕ) → j < 64 → (bit_at found j ≡ (bit_at likely j && (not (bit_at rest j) && hit j)))
+    × (T (bit_at rest j) → T (bit_at likely j))
 
 pub Found-none : (likely : ℕ) (hit : ℕ → Bool) → Found likely likely 0 hit
 Found-none likely hit j h = (bit_at_none j ∙ go (bit_at likely j), λ t. t)
@@ -54,7 +56,8 @@ found_group ps text likely rest found members n rest' found' inv g e j h = (
     hit = is_hit text (ranked ps j)
 
     old : (b c : Bool) → bit_at rest j ≡ b → c ≡ (not b && hit) → (bit_at found j || false) ≡ (bit_at likely j && c)
-    old b c q f = or-false (bit_at found j) ∙ (inv j h).0 ∙ ap (λ (x : Bool). bit_at likely j && (not x && hit)) q ∙ ap (λ (x : Bool). bit_at likely j && x) (sym f)
+    old b c q f = or-false (bit_at found j) ∙ (inv j h).0 ∙ ap (λ (x : Bool). bit_at likely j && (not x && hit)) q
+        ∙ ap (λ (x : Bool). bit_at likely j && x) (sym f)
 
     go : (b : Bool) → bit_at members j ≡ b → (c : Bool) → bit_at rest j ≡ c → (d : Bool) → bit_at rest' j ≡ d
         → (bit_at found j || b) ≡ (bit_at likely j && (not d && hit))

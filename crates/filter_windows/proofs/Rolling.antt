@@ -1,10 +1,11 @@
 -- THE FINGERPRINTS OF A TEXT, PLACE BY PLACE: a place shifts its bit in and the mask takes the
 -- oldest out, so that after 16 places the fingerprint of 17 values is the same whatever it was
 -- before.
+use Rattle.std.specs.Prelude.{◌≡◌, ◌∷◌, ◌++◌, ◌+◌, ◌-◌, ◌*◌, ◌/◌, ◌%◌, ◌^◌, ◌≤◌, ◌<◌}
 use lib.Bits.{bit_and, bit_or, and_mask, and_le_r, or_shifted}
 use lib.Pow.{high, ones_lt, ones_split, mod-mod-pow}
-use Rattle.lists.proofs.Prelude.{◌≡◌, ◌∙◌, ap, sym, refl, Bool, true, false, cond, List, [], ◌∷◌, ◌++◌, append_assoc, ℕ, zero, suc, ◌+◌, ◌-◌, ◌*◌, ◌/◌, ◌%◌}
-use Rattle.lists.proofs.Prelude.{◌^◌, ◌≤◌, ◌<◌, ℤ, pos, le_z, length, get_or, take, length-take, take-suc, mod-lt, pow-suc, mod-eq_of_lt}
+use Rattle.lists.proofs.Prelude.{◌∙◌, ap, sym, refl, Bool, true, false, cond, List, [], append_assoc, ℕ, zero, suc}
+use Rattle.lists.proofs.Prelude.{ℤ, pos, le_z, length, get_or, take, length-take, take-suc, mod-lt, pow-suc, mod-eq_of_lt}
 use Rattle.lists.proofs.Prelude.{mul-add-mod_self_right, add-mul, div-add-mod', min-le_left, zero-mod, one-le-pow, add_assoc, mul_assoc, pow-le-pow_right}
 use Rattle.lists.proofs.Prelude.{add-one, sub-one, dec_lt, arith}
 use Rattle.lists.proofs.Parts.{last_of_all}
@@ -19,7 +20,8 @@ pub new_bit_first : (text : List ℤ) (p : ℕ) → p ≡ 0 → 0 ≡ new_bit te
 unfolding new_bit
 new_bit_first text p e = rw e refl
 
-pub new_bit_next : (text : List ℤ) (p : ℕ) (t : Bool) → (p ≡ 0 → ⊥) → le_z (get_or text (p - 1) (pos 0)) (get_or text p (pos 0)) ≡ t → cond t 1 0 ≡ new_bit text p
+pub new_bit_next : (text : List ℤ) (p : ℕ) (t : Bool) → (p ≡ 0 → ⊥) → le_z (get_or text (p - 1) (pos 0)) (get_or text p (pos 0)) ≡ t → cond t 1 0
+    ≡ new_bit text p
 unfolding new_bit
 new_bit_next text zero t n e = absurd (n refl)
 new_bit_next text (suc p) t n e = ap (λ (b : Bool). cond b 1 0) (sym (rw sub-one at e))

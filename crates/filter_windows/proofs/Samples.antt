@@ -1,7 +1,8 @@
 -- WHERE THE SAMPLES BEHIND THE LAST GAP BEGIN: a sample behind them keeps it, a gap moves it behind
 -- itself; and the windows that fit at a place are those that begin no earlier.
+use Rattle.std.specs.Prelude.{◌≡◌, ◌&&◌, ◌||◌, ◌∷◌, ◌++◌, ◌+◌, ◌-◌, ◌≤◌, ◌<◌}
 use lib.Dec.{leb-suc-suc}
-use Rattle.lists.proofs.Prelude.{◌≡◌, ◌∙◌, ap, sym, refl, ap₂, Bool, true, false, not, ◌&&◌, ◌||◌, List, [], ◌∷◌, ◌++◌, ℕ, zero, suc, ◌+◌, ◌-◌, ◌≤◌, ◌<◌, ℤ}
+use Rattle.lists.proofs.Prelude.{◌∙◌, ap, sym, refl, ap₂, Bool, true, false, not, List, [], ℕ, zero, suc, ℤ}
 use Rattle.lists.proofs.Prelude.{pos, leb, length, get_or, take, length-take-le, take-suc, dec_lt, arith, le-leb, lt-leb, any, last_of}
 use Rattle.lists.proofs.Tests.{and-false, or-false}
 use Rattle.lists.proofs.Parts.{last_of-zero, last_of_snoc}

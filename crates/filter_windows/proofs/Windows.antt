@@ -1,7 +1,8 @@
 -- THE CHECK OF A WINDOW: the part of the text that ends at a place and is as long as a pattern that
 -- is likely there passes the comparisons that are left to the check exactly if the pattern has a
 -- hit there.
-use Rattle.lists.proofs.Prelude.{◌≡◌, ◌∙◌, ap, sym, subst, ap₂, Bool, ◌&&◌, List, ◌++◌, ℕ, suc, ◌+◌, ◌-◌, ◌≤◌, ◌<◌, ℤ, T, length, take, drop, length-drop}
+use Rattle.std.specs.Prelude.{◌≡◌, ◌&&◌, ◌++◌, ◌+◌, ◌-◌, ◌≤◌, ◌<◌}
+use Rattle.lists.proofs.Prelude.{◌∙◌, ap, sym, subst, ap₂, Bool, List, ℕ, suc, ℤ, T, length, take, drop, length-drop}
 use Rattle.lists.proofs.Prelude.{length-take-le, take-add, drop-append_seam, min-le_right, arith, le-leb, last_of}
 use Rattle.lists.proofs.Parts.{last_of-last_of}
 use Rattle.gaps.specs.Gaps.{holds_gap}

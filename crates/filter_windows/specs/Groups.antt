@@ -1,6 +1,7 @@
 -- Groups of equal patterns in a set of ranks, and the first of them that has a hit. A set of
 -- patterns is a u64: bit r stands for the pattern of rank r in the order of hits.
-use Rattle.lists.specs.Prelude.{◌≡◌, false, List, ℕ, ◌<◌, T, ℤ, length}
+use Rattle.std.specs.Prelude.{◌≡◌, ◌<◌}
+use Rattle.lists.specs.Prelude.{false, List, ℕ, T, ℤ, length}
 use Rattle.bit_sets.specs.BitSets.{bit_at}
 use Rattle.pattern_set.specs.PatternSet.{PatternSet}
 use Rattle.filter_plan.specs.Plan.{is_likely, is_hit}

@@ -1,6 +1,7 @@
 -- What a look at a place of a text finds, and what it asks of the tables. A set of patterns is a
 -- u64: bit r stands for the pattern of rank r in the order of hits.
-use Rattle.lists.specs.Prelude.{◌≡◌, Bool, cond, not, ◌&&◌, List, ℕ, zero, suc, min, ◌-◌, ◌/◌, ◌%◌, ◌≤◌, ◌<◌, leb, ltb, ℤ, pos, le_z, length, get_or, take, last_of}
+use Rattle.std.specs.Prelude.{◌≡◌, ◌&&◌, ◌-◌, ◌/◌, ◌%◌, ◌≤◌, ◌<◌}
+use Rattle.lists.specs.Prelude.{Bool, cond, not, List, ℕ, zero, suc, min, leb, ltb, ℤ, pos, le_z, length, get_or, take, last_of}
 use Rattle.gaps.specs.Gaps.{holds_gap}
 use Rattle.bit_sets.specs.BitSets.{bit_at}
 use Rattle.pattern_set.specs.PatternSet.{PatternSet}

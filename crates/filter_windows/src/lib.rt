@@ -1,6 +1,9 @@
 // A look at the patterns of a place of a text: by its fingerprint and by the samples behind the
 // last gap first, then by comparisons of values in the windows that are left.
-ghost use Rattle.lists.specs.Prelude.{◌≡◌, List, [], suc, min, ◌+◌, ◌-◌, ◌*◌, ◌/◌, ◌%◌, ◌^◌, ◌≤◌, ◌<◌, ℤ, pos, le_z, T, length, get_or, take};
+#![tactic(auto)]
+
+ghost use Rattle.std.specs.Prelude.{◌≡◌, ◌+◌, ◌-◌, ◌*◌, ◌/◌, ◌%◌, ◌^◌, ◌≤◌, ◌<◌};
+ghost use Rattle.lists.specs.Prelude.{List, [], suc, min, ℤ, pos, le_z, T, length, get_or, take};
 ghost use Rattle.pattern_set.specs.PatternSet.{patterns_of, IsSet};
 ghost use Rattle.matching.specs.Matching.{shortest, is_candidate};
 ghost use Rattle.filter_plan.specs.Plan.{text_fingerprint, is_likely, is_hit};
@@ -240,7 +243,7 @@ fn has_hit(set: &[u32], text: &[i32], p: usize, j: usize, checks: &[u32]) -> boo
 
 // A group of equal patterns: one of its ranks, and how many values they have, or 0 for no group;
 // and the ranks that are left behind it.
-#[derive(Drop)]
+#[derive(Clone, Copy)]
 pub struct Group {
     pub rank: usize,
     pub length: usize,

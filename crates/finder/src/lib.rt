@@ -1,12 +1,14 @@
 // The finder's entries. A caller lists this crate and `answers`, which declares the answers, the
 // refusals and the search state. No entry asks anything of its caller: each answers, or refuses by
 // the number of documents 01 and 02 and changes no word.
-ghost use Rattle.lists.specs.Prelude.{◌≡◌};
+#![tactic(auto)]
+
+ghost use Rattle.std.specs.Prelude.{◌≡◌};
 ghost use Rattle.answers.specs.Told.{told_written, told_next, told_encoded, told_size, told_built, told_filtered, told_streamed, told_first};
 ghost use Rattle.realization.specs.Realization.{least_realization, failure_lengths};
 ghost use Rattle.global_parents.specs.GlobalParents.{global_parents};
-ghost use Rattle.entries.specs.Entries.{told, after, distances_entry, list_entry, encode_entry, decode_entry, empty_set_entry, check_entry, add_entry, build_entry};
-ghost use Rattle.entries.specs.Entries.{next_entry, withdraw_entry, stream_entry, stream_rises, stream_state, first_entry, filter_entry, filter_rises};
+ghost use Rattle.entries.specs.Entries.{after, distances_entry, list_entry, encode_entry, decode_entry, empty_set_entry, check_entry, add_entry, build_entry};
+ghost use Rattle.entries.specs.Entries.{told, next_entry, withdraw_entry, stream_entry, stream_rises, stream_state, first_entry, filter_entry, filter_rises};
 
 use answers::{
     Built, Encoded, Filtered, FirstHit, NextList, SearchState, SetSize, Streamed, Written,

@@ -1,11 +1,13 @@
 // The finder's entries for C and Rust: each returns a struct of numbers. A slice is a pointer and a
 // length; include/finder.h documents each function.
-ghost use Rattle.lists.specs.Prelude.{◌≡◌};
+#![tactic(auto)]
+
+ghost use Rattle.std.specs.Prelude.{◌≡◌};
 ghost use Rattle.answers.specs.Told.{told_written, told_next, told_encoded, told_size, told_built, told_filtered, told_streamed, told_first, new_search};
 ghost use Rattle.realization.specs.Realization.{least_realization, failure_lengths};
 ghost use Rattle.global_parents.specs.GlobalParents.{global_parents};
-ghost use Rattle.entries.specs.Entries.{told, after, distances_entry, list_entry, encode_entry, decode_entry, empty_set_entry, check_entry, add_entry, build_entry};
-ghost use Rattle.entries.specs.Entries.{next_entry, withdraw_entry, stream_entry, stream_rises, stream_state, first_entry, filter_entry, filter_rises};
+ghost use Rattle.entries.specs.Entries.{after, distances_entry, list_entry, encode_entry, decode_entry, empty_set_entry, check_entry, add_entry, build_entry};
+ghost use Rattle.entries.specs.Entries.{told, next_entry, withdraw_entry, stream_entry, stream_rises, stream_state, first_entry, filter_entry, filter_rises};
 ghost use Rattle.finder_c.specs.Told.{tells_written, tells_next, tells_code, tells_counts, tells_streamed, tells_numbers, tells_first};
 
 use answers::{
@@ -15,7 +17,7 @@ use answers::{
 
 // Refusal, 0 for none, and the words or values written.
 #[repr(C)]
-#[derive(Drop)]
+#[derive(Clone, Copy)]
 pub struct FinderWritten {
     pub refusal: u32,
     pub words: usize,
@@ -23,7 +25,7 @@ pub struct FinderWritten {
 
 // Refusal, 1 where the list is the last of its catalogue, and the words written.
 #[repr(C)]
-#[derive(Drop)]
+#[derive(Clone, Copy)]
 pub struct FinderNextList {
     pub refusal: u32,
     pub last: u32,
@@ -32,7 +34,7 @@ pub struct FinderNextList {
 
 // Refusal and code.
 #[repr(C)]
-#[derive(Drop)]
+#[derive(Clone, Copy)]
 pub struct FinderCode {
     pub refusal: u32,
     pub code: u64,
@@ -40,7 +42,7 @@ pub struct FinderCode {
 
 // Refusal and two counts.
 #[repr(C)]
-#[derive(Drop)]
+#[derive(Clone, Copy)]
 pub struct FinderCounts {
     pub refusal: u32,
     pub first: usize,
@@ -49,7 +51,7 @@ pub struct FinderCounts {
 
 // The state handed back; refusal, 1 for ended and 0 for full, values taken, hits and attempts.
 #[repr(C)]
-#[derive(Drop)]
+#[derive(Clone, Copy)]
 pub struct FinderStreamed {
     pub state: SearchState,
     pub refusal: u32,
@@ -60,7 +62,7 @@ pub struct FinderStreamed {
 }
 
 // The same without the state.
-#[derive(Drop)]
+#[derive(Clone, Copy)]
 pub struct StreamNumbers {
     pub refusal: u32,
     pub ended: u32,
@@ -72,7 +74,7 @@ pub struct StreamNumbers {
 // Refusal, 1 where there is a hit and 0 where there is none, its last place and pattern number, and
 // the values read.
 #[repr(C)]
-#[derive(Drop)]
+#[derive(Clone, Copy)]
 pub struct FinderFirstHit {
     pub refusal: u32,
     pub found: u32,

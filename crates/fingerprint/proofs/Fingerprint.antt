@@ -2,7 +2,8 @@
 -- its parent is that one, at distance 1. So values with equal trees have equal fingerprints. And
 -- how a fingerprint grows by a value at the end and sheds one at the front, and that it tells where
 -- the values fall.
-use Rattle.lists.proofs.Prelude.{◌≡◌, ◌∙◌, ap, sym, refl, subst, Bool, true, false, cond, List, [], ◌∷◌, ◌++◌, ℕ, zero, suc, ◌+◌, ◌*◌, ◌%◌, ◌^◌, ◌<◌}
+use Rattle.std.specs.Prelude.{◌≡◌, ◌∷◌, ◌++◌, ◌+◌, ◌*◌, ◌%◌, ◌^◌, ◌<◌}
+use Rattle.lists.proofs.Prelude.{◌∙◌, ap, sym, refl, subst, Bool, true, false, cond, List, [], ℕ, zero, suc}
 use Rattle.lists.proofs.Prelude.{ℤ, pos, le_z, eqb, length, get_or}
 use Rattle.lists.proofs.Prelude.{length-append, pow-suc, mod-eq_of_lt, mul-add-mod_self_right, add-one, add-two, arith, ne_eqb, last_of}
 use Rattle.cartesian.specs.Cartesian.{tree, distances}
@@ -126,6 +127,7 @@ fingerprint_steps (x ∷ y ∷ xs) (u ∷ v ∷ ys) e f k h =
     go : (k : ℕ) → suc k < length (x ∷ y ∷ xs) → le_z x y ≡ le_z u v
         → ((k : ℕ) → suc k < length (y ∷ xs) → le_z (get_or (y ∷ xs) k (pos 0)) (get_or (y ∷ xs) (suc k) (pos 0)) ≡ le_z (get_or (v ∷ ys) k (pos 0))
         (get_or (v ∷ ys) (suc k) (pos 0)))
-        → le_z (get_or (x ∷ y ∷ xs) k (pos 0)) (get_or (x ∷ y ∷ xs) (suc k) (pos 0)) ≡ le_z (get_or (u ∷ v ∷ ys) k (pos 0)) (get_or (u ∷ v ∷ ys) (suc k) (pos 0))
+        → le_z (get_or (x ∷ y ∷ xs) k (pos 0)) (get_or (x ∷ y ∷ xs) (suc k) (pos 0))
+        ≡ le_z (get_or (u ∷ v ∷ ys) k (pos 0)) (get_or (u ∷ v ∷ ys) (suc k) (pos 0))
     go zero h t ih = t
     go (suc k) h t ih = ih k (omega arith)

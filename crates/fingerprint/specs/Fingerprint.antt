@@ -1,5 +1,6 @@
 -- Fingerprints of values. Document 01: the key of b readings.
-use Rattle.lists.specs.Prelude.{cond, List, [], ◌∷◌, ℕ, ◌+◌, ◌*◌, ◌^◌, ℤ, le_z, length}
+use Rattle.std.specs.Prelude.{◌∷◌, ◌+◌, ◌*◌, ◌^◌}
+use Rattle.lists.specs.Prelude.{cond, List, [], ℕ, ℤ, le_z, length}
 
 -- a bit for each value but the last, the earliest highest: 1 where the next value is not below this
 -- one

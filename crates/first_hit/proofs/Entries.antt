@@ -1,6 +1,7 @@
 -- THE ANSWER for each way through the entry: the first refusal that is met, and else the first hit
 -- of the text, or none.
-use Rattle.lists.proofs.Prelude.{◌≡◌, ◌∙◌, refl, List, [], ◌∷◌, ℕ, ◌≤◌, ◌<◌, ℤ, ltb, length, lt-ltb, le-ltb}
+use Rattle.std.specs.Prelude.{◌≡◌, ◌∷◌, ◌≤◌, ◌<◌}
+use Rattle.lists.proofs.Prelude.{◌∙◌, refl, List, [], ℕ, ℤ, ltb, length, lt-ltb, le-ltb}
 use Rattle.answers.specs.declared.Refusal.{Refusal}
 use Rattle.answers.specs.Told.{number}
 use Rattle.answers.proofs.Refusals.{number_positive}

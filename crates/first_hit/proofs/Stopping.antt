@@ -1,7 +1,8 @@
 -- WHERE A CALL STOPS whose hit array has room for the hits of one value: it is full only if it has
 -- a hit, and what it has are the hits of the front that it took. So its first hit is that of the
 -- text, and where it has none the text has none.
-use Rattle.lists.proofs.Prelude.{◌≡◌, ◌∙◌, ap, sym, refl, subst, Memᴰ, Memᴰ-head, inl, inr, List, [], ◌∷◌, ◌++◌, flatten, ℕ, suc, ◌+◌, ◌*◌, ◌<◌, ℤ}
+use Rattle.std.specs.Prelude.{◌≡◌, ◌∷◌, ◌++◌, ◌+◌, ◌*◌, ◌<◌}
+use Rattle.lists.proofs.Prelude.{◌∙◌, ap, sym, refl, subst, Memᴰ, Memᴰ-head, inl, inr, List, [], flatten, ℕ, suc, ℤ}
 use Rattle.lists.proofs.Prelude.{T, length, get_or, take, drop}
 use Rattle.lists.proofs.Prelude.{take-append-drop, take_all, arith, tabulate}
 use Rattle.lists.proofs.Parts.{length_none}

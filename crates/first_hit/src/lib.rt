@@ -1,6 +1,9 @@
 // The first hit of a whole text, without reading on after it. Document 02, 2.5 and 2.6; refusals
 // 1 5 15 7 9.
-ghost use Rattle.lists.specs.Prelude.{◌≡◌, ◌*◌, ◌≤◌, length};
+#![tactic(auto)]
+
+ghost use Rattle.std.specs.Prelude.{◌≡◌, ◌*◌, ◌≤◌};
+ghost use Rattle.lists.specs.Prelude.{length};
 ghost use Rattle.answers.specs.Told.{told_first};
 ghost use Rattle.pattern_set.specs.PatternSet.{patterns_of};
 ghost use Rattle.matching.specs.Matching.{hits};

@@ -1,5 +1,6 @@
 -- Laws of gaps: what holds none, holds none in its parts, and a sample put behind it keeps it so.
-use Rattle.lists.proofs.Prelude.{◌≡◌, ◌∙◌, ap, sym, refl, Bool, true, false, ◌||◌, List, [], ◌∷◌, ◌++◌, map, ℕ, suc, ◌+◌, ◌-◌, ◌≤◌, ◌<◌, ℤ, pos}
+use Rattle.std.specs.Prelude.{◌≡◌, ◌||◌, ◌∷◌, ◌++◌, ◌+◌, ◌-◌, ◌≤◌, ◌<◌}
+use Rattle.lists.proofs.Prelude.{◌∙◌, ap, sym, refl, Bool, true, false, List, [], map, ℕ, suc, ℤ, pos}
 use Rattle.lists.proofs.Prelude.{negsuc, mag, w32, of_z, eqb, eqb→eq, eq-eqb, ne_eqb, length, drop, drop-drop, arith, any, last_of}
 use Rattle.lists.proofs.Tests.{T-true, test_ext}
 use Rattle.lists.proofs.Members.{none_front, none_drop, any_snoc, none_snoc}

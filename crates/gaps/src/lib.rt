@@ -1,5 +1,8 @@
 // Gaps: the value that stands in a text where the recorder had no sample.
-ghost use Rattle.lists.specs.Prelude.{◌≡◌, ◌<◌, pos, length, get_or};
+#![tactic(auto)]
+
+ghost use Rattle.std.specs.Prelude.{◌≡◌, ◌<◌};
+ghost use Rattle.lists.specs.Prelude.{pos, length, get_or};
 ghost use Rattle.gaps.specs.Gaps.{is_gap, holds_gap};
 
 // Whether value i is a gap.

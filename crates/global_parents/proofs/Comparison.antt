@@ -1,6 +1,7 @@
 -- One comparison of a value with its global parent, as facts: the parent is not above the value,
 -- and below it where the parent is to the right.
-use Rattle.lists.proofs.Prelude.{◌≡◌, inl, inr, ◌⊎◌, ◌&&◌, ◌||◌, List, ℕ, ◌≤◌, ◌<◌, ℤ, pos, le_z, lt_z, ◌≤ℤ◌, ◌<ℤ◌, lt_z_yes, le_z_yes, T, leb, leb→le, le→leb}
+use Rattle.std.specs.Prelude.{◌≡◌, ◌⊎◌, ◌&&◌, ◌||◌, ◌≤◌, ◌<◌, ◌≤ℤ◌, ◌<ℤ◌}
+use Rattle.lists.proofs.Prelude.{inl, inr, List, ℕ, ℤ, pos, le_z, lt_z, lt_z_yes, le_z_yes, T, leb, leb→le, le→leb}
 use Rattle.lists.proofs.Prelude.{get_or, arith}
 use Rattle.lists.proofs.Tests.{and_split, and_join, test_ext, or_cases, or_left, or_right}
 use Rattle.lists.proofs.Order.{≤ℤ-total, <ℤ-≤ℤ}

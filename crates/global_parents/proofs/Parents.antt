@@ -1,8 +1,9 @@
 -- THE LAW OF GLOBAL PARENTS: the global parents of distances are the parents in the tree. A left
 -- child has its parent on its right, as the only place whose left child it is; a right child has
 -- its parent on its left, at its distance; the root is its own.
-use Rattle.lists.proofs.Prelude.{◌≡◌, ◌∙◌, ap, sym, refl, inl, inr, ◌⊎◌, Bool, ◌&&◌, Option, none, some, some-injective, none-ne-some, List, ℕ}
-use Rattle.lists.proofs.Prelude.{zero, suc, ◌+◌, ◌-◌, ◌≤◌, ◌<◌, ℤ, T, ltb, eqb→eq, lt→ltb, eqb_refl, length, get_or, take, ext_get_or, arith, last_below}
+use Rattle.std.specs.Prelude.{◌≡◌, ◌⊎◌, ◌&&◌, ◌+◌, ◌-◌, ◌≤◌, ◌<◌}
+use Rattle.lists.proofs.Prelude.{◌∙◌, ap, sym, refl, inl, inr, Bool, Option, none, some, some-injective, none-ne-some, List, ℕ}
+use Rattle.lists.proofs.Prelude.{zero, suc, ℤ, T, ltb, eqb→eq, lt→ltb, eqb_refl, length, get_or, take, ext_get_or, arith, last_below}
 use Rattle.lists.proofs.Tests.{and_split, and_join}
 use Rattle.lists.proofs.Tables.{length-tabulate, get_or-tabulate}
 use Rattle.lists.proofs.LastBelow.{last_below_passes, last_below-le, last_below_none}
@@ -53,7 +54,8 @@ parent_root_of a g k (node l r) e =
     rw p (parent_root a g l r)
 
 -- the place whose left child is k is the parent of k
-parent_of_child : (a g j k : ℕ) (t : Tree) → j < size t → k < size t → get_or (left_children a t) j none ≡ some (a + k) → get_or (parents_from a g t) k 0 ≡ a + j
+parent_of_child : (a g j k : ℕ) (t : Tree) → j < size t → k < size t → get_or (left_children a t) j none ≡ some (a + k) → get_or (parents_from a g t) k 0
+    ≡ a + j
 unfolding size
 parent_of_child a g j k leaf hj hk e = absurd (let z : ⊥ = omega arith in z)
 parent_of_child a g j k (node l r) hj hk e =

@@ -1,6 +1,7 @@
 -- The left children, the distances and the parents of a node, part by part: at a place on its left,
 -- at its root, at a place on its right.
-use Rattle.lists.proofs.Prelude.{◌≡◌, ◌∙◌, ap, refl, ap₂, none, ◌∷◌, ℕ, suc, ◌+◌, ◌<◌, length, get_or, length-append, get_or_at, arith}
+use Rattle.std.specs.Prelude.{◌≡◌, ◌∷◌, ◌+◌, ◌<◌}
+use Rattle.lists.proofs.Prelude.{◌∙◌, ap, refl, ap₂, none, ℕ, suc, length, get_or, length-append, get_or_at, arith}
 use Rattle.lists.proofs.Places.{get_or_before, get_or_after}
 use Rattle.cartesian.specs.Cartesian.{Tree, leaf, node, size}
 use Rattle.cartesian.proofs.Structure.{or_else, lift, tree_distances, length-tree_distances, get_or-lift}
@@ -23,7 +24,8 @@ parent_left a g l r k h =
 
 pub parent_root : (a g : ℕ) (l r : Tree) → get_or (parents_from a g (node l r)) (size l) 0 ≡ g
 unfolding parents_from
-parent_root a g l r = get_or_at (parents_from a (a + size l) l) g (parents_from (suc (a + size l)) (a + size l) r) 0 (size l) (length-parents_from a (a + size l) l)
+parent_root a g l r = get_or_at (parents_from a (a + size l) l) g (parents_from (suc (a + size l)) (a + size l) r) 0 (size l)
+    (length-parents_from a (a + size l) l)
 
 pub parent_right : (a g : ℕ) (l r : Tree) (k : ℕ)
     → get_or (parents_from a g (node l r)) (size l + suc k) 0 ≡ get_or (parents_from (suc (a + size l)) (a + size l) r) k 0

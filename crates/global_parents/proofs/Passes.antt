@@ -2,7 +2,8 @@
 -- exactly if the window has the tree that the distances stand for. That a left child is above its
 -- parent and a right child not below it makes, by transitivity, all before a root above it and all
 -- after it not below it.
-use Rattle.lists.proofs.Prelude.{◌≡◌, ◌∙◌, ap, sym, refl, subst, ◌↔◌, Bool, List, [], ◌∷◌, ◌++◌, ℕ, suc, ◌+◌, ◌≤◌, ◌<◌, ℤ, pos, ◌≤ℤ◌, ◌<ℤ◌, ≤ℤ_refl}
+use Rattle.std.specs.Prelude.{◌≡◌, ◌↔◌, ◌∷◌, ◌++◌, ◌+◌, ◌≤◌, ◌<◌, ◌≤ℤ◌, ◌<ℤ◌}
+use Rattle.lists.proofs.Prelude.{◌∙◌, ap, sym, refl, subst, Bool, List, [], ℕ, suc, ℤ, pos, ≤ℤ_refl}
 use Rattle.lists.proofs.Prelude.{<ℤ-≤ℤ_trans, T, length, get_or, length-append, get_or_at, le_refl, arith}
 use Rattle.lists.proofs.Order.{≤ℤ-trans}
 use Rattle.lists.proofs.Places.{Place, before, here, after, place, get_or_before, get_or_after, split_length}

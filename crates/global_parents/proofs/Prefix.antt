@@ -1,6 +1,7 @@
 -- The tree over the first places of a tree: its distances are the first distances,
 -- and the left child of its last place is the left child that this place has in the whole tree.
-use Rattle.lists.proofs.Prelude.{◌≡◌, ◌∙◌, ap, sym, refl, ap₂, cond, Option, none, List, [], ◌∷◌, ◌++◌, ℕ, zero, suc, min, ◌+◌, ◌-◌, ◌≤◌, ◌<◌, leb, length}
+use Rattle.std.specs.Prelude.{◌≡◌, ◌∷◌, ◌++◌, ◌+◌, ◌-◌, ◌≤◌, ◌<◌}
+use Rattle.lists.proofs.Prelude.{◌∙◌, ap, sym, refl, ap₂, cond, Option, none, List, [], ℕ, zero, suc, min, leb, length}
 use Rattle.lists.proofs.Prelude.{get_or, take, length-append, length-take, get_or_at, take-append-le, take-nil, take-append-add, dec_lt, arith, le-leb, lt-leb}
 use Rattle.lists.proofs.Places.{Place, before, here, after, place, get_or_before, get_or_after}
 use Rattle.cartesian.specs.Cartesian.{Tree, leaf, node, size, tree_of}

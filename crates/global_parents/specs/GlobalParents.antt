@@ -1,5 +1,6 @@
 -- Global parents. Document 01 (and 000): Global parent.
-use Rattle.lists.specs.Prelude.{Bool, false, ◌&&◌, Option, none, some, List, ℕ, zero, suc, ◌+◌, ◌-◌, eqb, ltb, length, get_or, take, tabulate, last_below}
+use Rattle.std.specs.Prelude.{◌&&◌, ◌+◌, ◌-◌}
+use Rattle.lists.specs.Prelude.{Bool, false, Option, none, some, List, ℕ, zero, suc, eqb, ltb, length, get_or, take, tabulate, last_below}
 use Rattle.cartesian.specs.Cartesian.{Tree, leaf, node, size, tree_of}
 
 -- the place of the root of a tree whose first place is a

@@ -1,5 +1,6 @@
 -- The parent of each place in a tree: what the global parents are proved to be.
-use Rattle.lists.specs.Prelude.{List, [], ◌∷◌, ◌++◌, ℕ, suc, ◌+◌}
+use Rattle.std.specs.Prelude.{◌∷◌, ◌++◌, ◌+◌}
+use Rattle.lists.specs.Prelude.{List, [], ℕ, suc}
 use Rattle.cartesian.specs.Cartesian.{Tree, leaf, node, size}
 
 -- in the order of the places, for a tree whose first place is a and whose root has the parent g

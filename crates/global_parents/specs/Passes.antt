@@ -1,7 +1,8 @@
 -- The check of a window by global parents. Document 01 (and 000): A window has the shape exactly if
 -- at each i the reading at the global parent is below that at i, or equal to it with the parent not
 -- to the right of i.
-use Rattle.lists.specs.Prelude.{Bool, ◌&&◌, ◌||◌, List, ℕ, ◌<◌, leb, ℤ, pos, le_z, lt_z, length, get_or, tabulate, all}
+use Rattle.std.specs.Prelude.{◌&&◌, ◌||◌, ◌<◌}
+use Rattle.lists.specs.Prelude.{Bool, List, ℕ, leb, ℤ, pos, le_z, lt_z, length, get_or, tabulate, all}
 use Rattle.global_parents.specs.GlobalParents.{global_parent}
 
 -- is the value at the global parent g below the value at i, or equal to it with the parent not to

@@ -1,6 +1,7 @@
 -- The patterns added one after the other, as the program adds them: each is cut out within the
 -- values, and the first that is refused ends it.
-use Rattle.lists.proofs.Prelude.{◌≡◌, ◌∙◌, ap, sym, refl, ap₂, List, [], ◌∷◌, ℕ, zero, suc, min, ◌+◌, ◌-◌, ◌≤◌, ◌<◌, ℤ, length, get_or, take, drop}
+use Rattle.std.specs.Prelude.{◌≡◌, ◌∷◌, ◌+◌, ◌-◌, ◌≤◌, ◌<◌}
+use Rattle.lists.proofs.Prelude.{◌∙◌, ap, sym, refl, ap₂, List, [], ℕ, zero, suc, min, ℤ, length, get_or, take, drop}
 use Rattle.lists.proofs.Prelude.{drop_of_length-le, drop-cons, take_all, length-drop, add-one, dec_lt, arith}
 use Rattle.entries.specs.Entries.{first_met, unless, after, empty_set_entry, add_entry, build_entry}
 use Rattle.hits_calls.specs.Prepared.{parts_of, add_all, make_set, make_both}

@@ -1,7 +1,8 @@
 -- The hits of an accepted call, read off the array that was lent: their words lie at its front, and
 -- their numbers are those of patterns.
-use Rattle.lists.proofs.Prelude.{◌≡◌, ◌∙◌, ap, sym, refl, subst, ap₂, inl, inr, ◌⊎◌, Bool, true, false, cond, List, [], ◌∷◌, ◌++◌, map, Memᴰ}
-use Rattle.lists.proofs.Prelude.{append_assoc, Memᴰ-not-nil, Memᴰ-append_cases, flatten, ℕ, zero, suc, min, ◌+◌, ◌-◌, ◌*◌, ◌/◌, ◌≤◌, ◌<◌, ℤ, ltb}
+use Rattle.std.specs.Prelude.{◌≡◌, ◌⊎◌, ◌∷◌, ◌++◌, ◌+◌, ◌-◌, ◌*◌, ◌/◌, ◌≤◌, ◌<◌}
+use Rattle.lists.proofs.Prelude.{◌∙◌, ap, sym, refl, subst, ap₂, inl, inr, Bool, true, false, cond, List, [], map, Memᴰ}
+use Rattle.lists.proofs.Prelude.{append_assoc, Memᴰ-not-nil, Memᴰ-append_cases, flatten, ℕ, zero, suc, min, ℤ, ltb}
 use Rattle.lists.proofs.Prelude.{length, get_or, take, drop, length-append, length-drop, length-take-le, arith, tabulate, same}
 use Rattle.lists.proofs.Select.{mem-select}
 use Rattle.lists.proofs.Members.{mem_below, get_or-mem, mem-map}

@@ -1,5 +1,6 @@
 -- What one call of the program tells, and what it leaves in the arrays.
-use Rattle.lists.specs.Prelude.{◌≡◌, Bool, ◌&&◌, List, [], ◌++◌, ℕ, min, ◌*◌, ◌/◌, eqb, ℤ, length, take, drop}
+use Rattle.std.specs.Prelude.{◌≡◌, ◌&&◌, ◌++◌, ◌*◌, ◌/◌}
+use Rattle.lists.specs.Prelude.{Bool, List, [], ℕ, min, eqb, ℤ, length, take, drop}
 use Rattle.answers.specs.declared.SearchState.{SearchState}
 use Rattle.pattern_set.specs.PatternSet.{patterns_of}
 use Rattle.entries.specs.Entries.{first_met, unless, told, after, Counts, stream_conditions, stream_call, stream_entry, stream_rises, stream_state}

@@ -1,6 +1,7 @@
 -- What the calls leave that make the set and its automaton, by the entries' definitions one after
 -- the other.
-use Rattle.lists.specs.Prelude.{List, [], ◌∷◌, ℕ, ◌-◌, ℤ, take, drop}
+use Rattle.std.specs.Prelude.{◌∷◌, ◌-◌}
+use Rattle.lists.specs.Prelude.{List, [], ℕ, ℤ, take, drop}
 use Rattle.entries.specs.Entries.{first_met, unless, after, empty_set_entry, add_entry, build_entry}
 
 -- the patterns whose values lie one after the other from a place on, each up to its end

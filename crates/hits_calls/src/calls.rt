@@ -1,5 +1,6 @@
 // One call of the stream search, and the text of its hits.
-ghost use Rattle.lists.specs.Prelude.{◌≡◌, ◌≤◌, length};
+ghost use Rattle.std.specs.Prelude.{◌≡◌, ◌≤◌};
+ghost use Rattle.lists.specs.Prelude.{length};
 ghost use Rattle.answers.specs.Told.{told_streamed};
 ghost use Rattle.hits_calls.specs.Called.{summed, summary, IsCalled};
 
@@ -7,7 +8,7 @@ use crate::preparing;
 use answers::{Counts, SearchState, StreamAnswer};
 
 // The answer of a call: the number of its refusal or 0, whether values are left, and its counts.
-#[derive(Drop)]
+#[derive(Clone, Copy)]
 struct Summary {
     refused: u32,
     more: bool,
@@ -17,7 +18,7 @@ struct Summary {
 
 // What a call leaves: the state, the number of its refusal or 0, whether values are left, its hits
 // and attempts, and the bytes of the text of the hits.
-#[derive(Drop)]
+#[derive(Clone, Copy)]
 pub struct Step {
     pub state: SearchState,
     pub refused: u32,

@@ -1,6 +1,7 @@
 // The set of the patterns and its automaton, made by the finder's entries in lent arrays. A refusal
 // is told by its number, and 0 is none.
-ghost use Rattle.lists.specs.Prelude.{◌≡◌, min, ◌≤◌};
+ghost use Rattle.std.specs.Prelude.{◌≡◌, ◌≤◌};
+ghost use Rattle.lists.specs.Prelude.{min};
 ghost use Rattle.entries.specs.Entries.{first_met, after, empty_set_entry, add_entry, build_entry};
 ghost use Rattle.hits_calls.specs.Prepared.{parts_of, add_all, make_set, make_both};
 

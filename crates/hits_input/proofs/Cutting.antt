@@ -1,6 +1,7 @@
 -- CUTTING: the parts of bytes begin with what stands before the first separator, and go on with the
 -- parts behind it.
-use Rattle.lists.proofs.Prelude.{◌≡◌, ◌∙◌, ap, refl, Bool, true, false, cond, ◌&&◌, List, [], ◌∷◌, ℕ, suc, ◌+◌, ◌-◌, ◌≤◌, ◌<◌, zero-le, eqb, length, get_or, take}
+use Rattle.std.specs.Prelude.{◌≡◌, ◌&&◌, ◌∷◌, ◌+◌, ◌-◌, ◌≤◌, ◌<◌}
+use Rattle.lists.proofs.Prelude.{◌∙◌, ap, refl, Bool, true, false, cond, List, [], ℕ, suc, zero-le, eqb, length, get_or, take}
 use Rattle.lists.proofs.Prelude.{drop, length-drop, drop_of_length-le, drop-cons, take_all, drop-drop, add-one, arith, eq-eqb, ne_eqb}
 use Rattle.hits_input.specs.Input.{parts, put_first}
 use Rattle.hits_input.specs.Steps.{up_to}

@@ -1,7 +1,8 @@
 -- FITS: how much an input can hold, and the front of the arrays that hold it. A caller of
 -- `read_input` cites these.
-use Rattle.lists.proofs.Prelude.{none-ne-some, ◌≡◌, ◌∙◌, ap, sym, refl, subst, Bool, true, false, ◌&&◌, Option, none, some, some-injective}
-use Rattle.lists.proofs.Prelude.{List, [], ◌∷◌, ◌++◌, flatten, ℕ, suc, ◌+◌, ◌*◌, ◌≤◌, zero-le, ℤ, eqb, leb, length, get_or, take, drop, length-append, take_at}
+use Rattle.std.specs.Prelude.{◌≡◌, ◌&&◌, ◌∷◌, ◌++◌, ◌+◌, ◌*◌, ◌≤◌}
+use Rattle.lists.proofs.Prelude.{none-ne-some, ◌∙◌, ap, sym, refl, subst, Bool, true, false, Option, none, some, some-injective}
+use Rattle.lists.proofs.Prelude.{List, [], flatten, ℕ, suc, zero-le, ℤ, eqb, leb, length, get_or, take, drop, length-append, take_at}
 use Rattle.lists.proofs.Prelude.{take-append_seam, arith, leb-true}
 use Rattle.hits_input.specs.declared.Parsed.{Parsed}
 use Rattle.hits_input.specs.Input.{and_then, when, parts, read_line, Input, read_lines, read_input}

@@ -1,7 +1,8 @@
 -- INPUTS: the lines are read one after the other: patterns up to an empty line, then the text,
 -- which is the last line and ends.
-use Rattle.lists.proofs.Prelude.{◌≡◌, ◌∙◌, ap, sym, refl, ap₂, Bool, true, false, Option, none, some, List, [], ◌∷◌, ◌++◌, append-nil, flatten, ℕ, suc, ◌+◌}
-use Rattle.lists.proofs.Prelude.{◌-◌, ◌≤◌, ◌<◌, ℤ, eqb, length, get_or, take, drop, set, length-append, length-take, length-drop, length-set, drop_of_length-le}
+use Rattle.std.specs.Prelude.{◌≡◌, ◌∷◌, ◌++◌, ◌+◌, ◌-◌, ◌≤◌, ◌<◌}
+use Rattle.lists.proofs.Prelude.{◌∙◌, ap, sym, refl, ap₂, Bool, true, false, Option, none, some, List, [], append-nil, flatten, ℕ, suc}
+use Rattle.lists.proofs.Prelude.{ℤ, eqb, length, get_or, take, drop, set, length-append, length-take, length-drop, length-set, drop_of_length-le}
 use Rattle.lists.proofs.Prelude.{drop-cons, append_snoc, dec_lt, arith, eq-eqb, le-leb, ne_eqb, lt-leb, eqb-true, eqb-false}
 use Rattle.lists.proofs.Parts.{length_snoc, store_behind, write_behind}
 use Rattle.lists.proofs.Rows.{flatten-append}
@@ -113,7 +114,8 @@ lines_empty {bytes} {values₀} {values} {ends₀} {ends} {from} {count} {filled
 line_off : {bytes : List ℕ} {values₀ values : List ℤ} {ends₀ ends : List ℕ} {from count filled e : ℕ}
     (w : Reading bytes values₀ ends₀ values ends from count filled)
     → e ≡ from + up_to 10 (drop from bytes) → e < length bytes → from < e
-    → read_lines (parts 10 bytes) ≡ behind w.ps (and_then (read_line (between from e bytes)) (λ x. behind (x ∷ []) (read_lines (parts 10 (drop (e + 1) bytes)))))
+    → read_lines (parts 10 bytes) ≡ behind w.ps (and_then (read_line (between from e bytes))
+    (λ x. behind (x ∷ []) (read_lines (parts 10 (drop (e + 1) bytes)))))
 line_off {bytes} {values₀} {values} {ends₀} {ends} {from} {count} {filled} {e} w q l h =
     w.rest
     ∙ ap (λ (ls : List (List ℕ)). behind w.ps (read_lines ls)) (parts_from_lem 10 bytes from e w.within q l)
@@ -249,7 +251,8 @@ text_last bytes from {e} {r} {text} {after} h m n q l p =
       good = λ k. let g = p.good (omega arith) in (g.0, is ∙ (rw g.1 refl), g.2 ∙ (omega arith), g.3);
     }
   where
-    is : read_lines ([] ∷ parts 10 (drop from bytes)) ≡ and_then {B = Input} (read_line (between from e bytes)) (λ xs. some (record { patterns = []; text = xs }))
+    is : read_lines ([] ∷ parts 10 (drop from bytes)) ≡ and_then {B = Input} (read_line (between from e bytes))
+        (λ xs. some (record { patterns = []; text = xs }))
     is =
         ap (λ (ls : List (List ℕ)). read_lines ([] ∷ ls)) (parts_from_lem 10 bytes from e h q (omega arith))
         ∙ ap (λ (bs : List ℕ). read_lines ([] ∷ between from e bytes ∷ parts 10 bs)) (drop_of_length-le bytes {i = e + 1} (omega arith))

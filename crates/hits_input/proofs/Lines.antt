@@ -1,7 +1,8 @@
 -- LINES: numbers are read from the front of a line, one part after the other, and put behind each
 -- other.
-use Rattle.lists.proofs.Prelude.{none-ne-some, ◌≡◌, ◌∙◌, ap, sym, refl, subst, true, false, cond, Option, none, some, some-injective, List, []}
-use Rattle.lists.proofs.Prelude.{◌∷◌, ◌++◌, map, append-nil, append_assoc, ℕ, suc, ◌+◌, ◌-◌, ◌*◌, ◌≤◌, ◌<◌, ℤ, pos, T, leb, length, take, drop, set}
+use Rattle.std.specs.Prelude.{◌≡◌, ◌∷◌, ◌++◌, ◌+◌, ◌-◌, ◌*◌, ◌≤◌, ◌<◌}
+use Rattle.lists.proofs.Prelude.{none-ne-some, ◌∙◌, ap, sym, refl, subst, true, false, cond, Option, none, some, some-injective, List, []}
+use Rattle.lists.proofs.Prelude.{map, append-nil, append_assoc, ℕ, suc, ℤ, pos, T, leb, length, take, drop, set}
 use Rattle.lists.proofs.Prelude.{length-append, length-set, take-append-drop, length-take-le, append_snoc, dec_lt, arith, le-leb, lt-leb}
 use Rattle.lists.proofs.Parts.{length_snoc, store_behind}
 use Rattle.hits_input.specs.Input.{and_then, parts, read_number, gather, read_line}
@@ -111,7 +112,8 @@ fill_full {line} {at} {before} {out} {from} {to} {e} {r} w h q t l =
 -- a part that is a number
 pub fill_more : {line : List ℕ} {at : ℕ} {before out : List ℤ} {from to e : ℕ} {after : List ℤ} → Filling line at before out from to
     → from ≤ length line → e ≡ from + up_to 32 (drop from line) → e ≤ length line
-    → to < length out → is_there (read_number (take (e - from) (drop from line))) ≡ true → after ≡ stored (read_number (take (e - from) (drop from line))) to out
+    → to < length out → is_there (read_number (take (e - from) (drop from line))) ≡ true → after
+    ≡ stored (read_number (take (e - from) (drop from line))) to out
     → Filling line at before after (e + 1) (to + 1)
 fill_more {line} {at} {before} {out} {from} {to} {e} {after} w h q m l t s = go (read_number (take (e - from) (drop from line))) refl t s
   where

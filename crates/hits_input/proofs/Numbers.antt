@@ -1,7 +1,8 @@
 -- NUMBERS: the size that the code finds is the number that the digits tell where that has at most
 -- 32 bits, and above all of 32 bits where it has not.
-use Rattle.lists.proofs.Prelude.{◌≡◌, ◌∙◌, ap, sym, refl, subst, Bool, true, false, cond, ◌&&◌, Option, none, some, List, [], ◌∷◌, ℕ, zero, suc, ◌+◌, ◌-◌, ◌*◌}
-use Rattle.lists.proofs.Prelude.{◌≤◌, ◌<◌, ℤ, pos, negsuc, ◌-ℤ◌, leb, length, get_or, drop, drop_of_length-le, drop-cons, dec_lt, arith, eq-eqb, le-leb, ne_eqb}
+use Rattle.std.specs.Prelude.{◌≡◌, ◌&&◌, ◌∷◌, ◌+◌, ◌-◌, ◌*◌, ◌≤◌, ◌<◌, ◌-ℤ◌}
+use Rattle.lists.proofs.Prelude.{◌∙◌, ap, sym, refl, subst, Bool, true, false, cond, Option, none, some, List, [], ℕ, zero, suc}
+use Rattle.lists.proofs.Prelude.{ℤ, pos, negsuc, leb, length, get_or, drop, drop_of_length-le, drop-cons, dec_lt, arith, eq-eqb, le-leb, ne_eqb}
 use Rattle.lists.proofs.Prelude.{lt-leb, leb-true, leb-false, all}
 use Rattle.lists.proofs.Tests.{and-false}
 use Rattle.hits_input.specs.Input.{when, decimal, are_digits, negative, read_number}
@@ -26,7 +27,8 @@ pub size_from-next : (v : ℕ) (ds : List ℕ) (i : ℕ) → i < length ds → l
 unfolding size_from
 size_from-next v ds i h e = rw (drop-cons ds i 0 h, e) refl
 
-pub size_from_no : (v : ℕ) (ds : List ℕ) (i : ℕ) → i < length ds → leb 48 (get_or ds i 0) && leb (get_or ds i 0) 57 ≡ false → size_from v (drop i ds) ≡ 4294967296
+pub size_from_no : (v : ℕ) (ds : List ℕ) (i : ℕ) → i < length ds → leb 48 (get_or ds i 0) && leb (get_or ds i 0) 57 ≡ false → size_from v (drop i ds)
+    ≡ 4294967296
 unfolding size_from
 size_from_no v ds i h e = rw (drop-cons ds i 0 h, e) refl
 

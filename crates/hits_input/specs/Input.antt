@@ -1,7 +1,8 @@
 -- What the program `hits` reads: a line per pattern, an empty line, one line of the text. Document
 -- 01: Program `hits`. The bytes are 10 for the newline, 32 for the space, 45 for the minus sign and
 -- 48 to 57 for the digits.
-use Rattle.lists.specs.Prelude.{Bool, cond, ◌&&◌, Option, none, some, List, [], ◌∷◌, map, flatten, ℕ, zero, suc, ◌+◌, ◌-◌, ◌*◌, eqb, leb, ℤ, pos, length, get_or}
+use Rattle.std.specs.Prelude.{◌&&◌, ◌∷◌, ◌+◌, ◌-◌, ◌*◌}
+use Rattle.lists.specs.Prelude.{Bool, cond, Option, none, some, List, [], map, flatten, ℕ, zero, suc, eqb, leb, ℤ, pos, length, get_or}
 use Rattle.lists.specs.Prelude.{negsuc, all}
 
 -- what is made of it, if it is there

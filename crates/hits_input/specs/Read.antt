@@ -1,6 +1,7 @@
 -- What reading leaves in the lent arrays: the patterns' values one after the other, where each
 -- pattern ends among them, and the text; behind each of these, what the array held before.
-use Rattle.lists.specs.Prelude.{◌≡◌, none, some, List, [], ◌∷◌, ◌++◌, flatten, ℕ, ◌+◌, ℤ, length, drop}
+use Rattle.std.specs.Prelude.{◌≡◌, ◌∷◌, ◌++◌, ◌+◌}
+use Rattle.lists.specs.Prelude.{none, some, List, [], flatten, ℕ, ℤ, length, drop}
 use Rattle.hits_input.specs.declared.Parsed.{Parsed}
 use Rattle.hits_input.specs.Input.{Input, read_input}
 

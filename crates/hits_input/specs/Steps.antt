@@ -1,5 +1,6 @@
 -- What each step of reading finds and leaves, said in the words of Input.antt.
-use Rattle.lists.specs.Prelude.{◌≡◌, Bool, true, false, cond, ◌&&◌, Option, none, some, List, [], ◌∷◌, ◌++◌, map, flatten, ℕ, suc, ◌+◌, ◌-◌, ◌*◌, ◌≤◌, ◌<◌, eqb}
+use Rattle.std.specs.Prelude.{◌≡◌, ◌&&◌, ◌∷◌, ◌++◌, ◌+◌, ◌-◌, ◌*◌, ◌≤◌, ◌<◌}
+use Rattle.lists.specs.Prelude.{Bool, true, false, cond, Option, none, some, List, [], map, flatten, ℕ, suc, eqb}
 use Rattle.lists.specs.Prelude.{leb, ℤ, length, take, drop, set}
 use Rattle.hits_input.specs.Input.{and_then, when, parts, read_number, gather, Input, read_lines}
 use Rattle.hits_input.specs.Read.{ends_of}

@@ -1,12 +1,15 @@
 // The input of the program `hits`, read into lent arrays. Document 01: Program `hits`.
-ghost use Rattle.lists.specs.Prelude.{◌≡◌, ◌+◌, ◌≤◌, ◌<◌, negsuc, length, get_or, drop};
+#![tactic(auto)]
+
+ghost use Rattle.std.specs.Prelude.{◌≡◌, ◌+◌, ◌≤◌, ◌<◌};
+ghost use Rattle.lists.specs.Prelude.{negsuc, length, get_or, drop};
 ghost use Rattle.hits_input.specs.Input.{read_number, read_line};
 ghost use Rattle.hits_input.specs.Read.{IsRead};
 ghost use Rattle.hits_input.specs.Steps.{up_to, next, numbers, size_of, is_there, stored, Put, PatternsRead, TextRead};
 
 // What the bytes hold: so many patterns, and a text of so many values; or no input that the program
 // takes.
-#[derive(Drop)]
+#[derive(Clone, Copy)]
 pub enum Parsed {
     Good(usize, usize),
     Bad,
@@ -14,7 +17,7 @@ pub enum Parsed {
 
 // How many pattern lines there are, and where the text's line begins; behind the bytes where there
 // is no such input.
-#[derive(Drop)]
+#[derive(Clone, Copy)]
 struct Patterns {
     count: usize,
     from: usize,

@@ -1,6 +1,7 @@
 -- Laws of decimal digits: how many a number has, and how they are written from the last one on.
+use Rattle.std.specs.Prelude.{◌≡◌, ◌∷◌, ◌++◌, ◌+◌, ◌-◌, ◌/◌, ◌%◌, ◌^◌, ◌≤◌, ◌<◌}
 use Rattle.lists.proofs.Parts.{drop-set, length_snoc}
-use Rattle.lists.proofs.Prelude.{◌≡◌, ◌∙◌, ap, sym, refl, Bool, true, false, List, [], ◌∷◌, ◌++◌, ℕ, zero, suc, ◌+◌, ◌-◌, ◌/◌, ◌%◌, ◌^◌, ◌≤◌, ◌<◌, ltb, length}
+use Rattle.lists.proofs.Prelude.{◌∙◌, ap, sym, refl, Bool, true, false, List, [], ℕ, zero, suc, ltb, length}
 use Rattle.lists.proofs.Prelude.{drop, set, append_snoc, pow-suc, sub-one, arith, lt-ltb, le-ltb, ltb-false, ltb-true}
 use Rattle.hits_output.specs.Output.{digits_within, digits}
 

@@ -1,5 +1,6 @@
 -- Laws of the lines of hits, and of a buffer that is written from the front.
-use Rattle.lists.proofs.Prelude.{◌≡◌, ◌∙◌, ap, sym, refl, List, [], ◌∷◌, ◌++◌, map, append-nil, append_assoc, flatten, ℕ, suc, ◌+◌, ◌-◌, ◌≤◌, ◌<◌, length, get_or}
+use Rattle.std.specs.Prelude.{◌≡◌, ◌∷◌, ◌++◌, ◌+◌, ◌-◌, ◌≤◌, ◌<◌}
+use Rattle.lists.proofs.Prelude.{◌∙◌, ap, sym, refl, List, [], map, append-nil, append_assoc, flatten, ℕ, suc, length, get_or}
 use Rattle.lists.proofs.Prelude.{take, drop, set, length-append, length-take-le, take-suc, append_snoc, add-one, arith, tabulate}
 use Rattle.lists.proofs.Parts.{map-append, put_behind, paste}
 use Rattle.lists.proofs.Rows.{flatten-append}

@@ -1,5 +1,6 @@
 -- What the program `hits` prints of hits and numbers. Document 01: Program `hits`.
-use Rattle.lists.specs.Prelude.{cond, List, [], ◌∷◌, ◌++◌, map, flatten, ℕ, zero, suc, ◌+◌, ◌/◌, ◌%◌, ltb, length, get_or}
+use Rattle.std.specs.Prelude.{◌∷◌, ◌++◌, ◌+◌, ◌/◌, ◌%◌}
+use Rattle.lists.specs.Prelude.{cond, List, [], map, flatten, ℕ, zero, suc, ltb, length, get_or}
 use Rattle.pattern_set.specs.PatternSet.{PatternSet}
 
 -- a number in decimal, of at most n + 1 digits

@@ -1,6 +1,9 @@
 // The text that the program `hits` prints for hits, written into a lent buffer. Document 01:
 // Program `hits`.
-ghost use Rattle.lists.specs.Prelude.{◌≡◌, [], ◌∷◌, ◌++◌, ℕ, ◌+◌, ◌*◌, ◌≤◌, ◌<◌, length, get_or, drop};
+#![tactic(auto)]
+
+ghost use Rattle.std.specs.Prelude.{◌≡◌, ◌∷◌, ◌++◌, ◌+◌, ◌*◌, ◌≤◌, ◌<◌};
+ghost use Rattle.lists.specs.Prelude.{[], ℕ, length, get_or, drop};
 ghost use Rattle.pattern_set.specs.PatternSet.{patterns_of, IsSet};
 ghost use Rattle.matching.specs.HitsIn.{hit_in, hits_in};
 ghost use Rattle.hits_output.specs.Output.{digits, line, hit_line, hit_lines, header, closing_line, refused_line, bad_line};

@@ -1,5 +1,6 @@
 -- Every piece behind which more follows brings the search nearer to its end.
-use Rattle.lists.proofs.Prelude.{◌≡◌, refl, subst, Bool, true, false, cond, List, ℕ, zero, suc, ◌+◌, ◌-◌, ◌*◌, ◌%◌, ◌^◌, ◌≤◌, ◌<◌, ℤ, pos, eqb, length}
+use Rattle.std.specs.Prelude.{◌≡◌, ◌+◌, ◌-◌, ◌*◌, ◌%◌, ◌^◌, ◌≤◌, ◌<◌}
+use Rattle.lists.proofs.Prelude.{refl, subst, Bool, true, false, cond, List, ℕ, zero, suc, ℤ, pos, eqb, length}
 use Rattle.lists.proofs.Prelude.{length-replicate, length-drop, drop, replicate, arith, inl, inr}
 use Rattle.lists.proofs.Tests.{clash}
 use Rattle.pattern_set.specs.PatternSet.{patterns_of}

@@ -1,7 +1,7 @@
 -- One call of the program leaves the next piece: its refusal, or the lines of its hits.
-use Rattle.lists.proofs.Prelude.{◌≡◌, ◌∙◌, ap, sym, refl, subst, ap₂, Bool, true, false, not, ◌||◌, List, [], ◌∷◌, ◌++◌, ℕ, zero, suc, min, ◌+◌, ◌-◌, ◌*◌}
-use Rattle.lists.proofs.Prelude.{◌%◌, ◌^◌, ◌≤◌}
-use Rattle.lists.proofs.Prelude.{◌<◌, ℤ, pos, eqb, ltb, le-ltb, length, length-append, length-replicate, length-take, length-drop, take, take_all, drop}
+use Rattle.lists.proofs.Prelude.{◌∙◌, ap, sym, refl, subst, ap₂, Bool, true, false, not, List, [], ℕ, zero, suc, min}
+use Rattle.std.specs.Prelude.{◌≡◌, ◌||◌, ◌∷◌, ◌++◌, ◌+◌, ◌-◌, ◌*◌, ◌%◌, ◌^◌, ◌≤◌, ◌<◌}
+use Rattle.lists.proofs.Prelude.{ℤ, pos, eqb, ltb, le-ltb, length, length-append, length-replicate, length-take, length-drop, take, take_all, drop}
 use Rattle.lists.proofs.Prelude.{drop_of_length-le}
 use Rattle.lists.proofs.Prelude.{replicate, dec_lt, arith, inl, inr}
 use Rattle.answers.specs.declared.SearchState.{SearchState}

@@ -1,6 +1,7 @@
 -- What is said first: of an input that is none, of a refusal, and the header.
-use Rattle.lists.proofs.Prelude.{◌≡◌, ◌∙◌, ap, ap₂, sym, refl, subst, true, false, Option, none, some, List, [], ◌∷◌, ◌++◌, append_assoc, flatten, ℕ, ◌+◌, ◌-◌}
-use Rattle.lists.proofs.Prelude.{◌≤◌, ◌<◌, ℤ, length, length-append, length-take, take, drop, take-append_seam, drop-append_seam, drop-drop, ne_eqb, arith}
+use Rattle.std.specs.Prelude.{◌≡◌, ◌∷◌, ◌++◌, ◌+◌, ◌-◌, ◌≤◌, ◌<◌}
+use Rattle.lists.proofs.Prelude.{◌∙◌, ap, ap₂, sym, refl, subst, true, false, Option, none, some, List, [], append_assoc, flatten, ℕ}
+use Rattle.lists.proofs.Prelude.{ℤ, length, length-append, length-take, take, drop, take-append_seam, drop-append_seam, drop-drop, ne_eqb, arith}
 use Rattle.hits_input.specs.Input.{Input, read_input}
 use Rattle.hits_input.specs.declared.Parsed.{Parsed}
 use Rattle.hits_input.specs.Read.{ends_of, HasInput, IsRead}

@@ -1,5 +1,6 @@
 -- What a piece in the buffer is, by the pieces of `hits_printed`, and how much a search has left.
-use Rattle.lists.specs.Prelude.{◌≡◌, cond, Option, some, List, [], ◌++◌, ℕ, suc, ◌-◌, ℤ, length, take, drop}
+use Rattle.std.specs.Prelude.{◌≡◌, ◌++◌, ◌-◌}
+use Rattle.lists.specs.Prelude.{cond, Option, some, List, [], ℕ, suc, ℤ, length, take, drop}
 use Rattle.hits_input.specs.Input.{Input}
 use Rattle.hits_printed.specs.Pieces as pieces
 use Rattle.hits_pieces.specs.declared.first.First.{First}

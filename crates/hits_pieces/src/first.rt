@@ -1,5 +1,6 @@
 // The first piece: the input is read, set and automaton are made, and what is said of that.
-ghost use Rattle.lists.specs.Prelude.{◌≡◌, ◌≤◌, length, take};
+ghost use Rattle.std.specs.Prelude.{◌≡◌, ◌≤◌};
+ghost use Rattle.lists.specs.Prelude.{length, take};
 ghost use Rattle.hits_input.specs.Input.{read_input};
 ghost use Rattle.hits_calls.specs.Prepared.{parts_of, make_set, make_both};
 ghost use Rattle.hits_pieces.specs.Said.{IsSaid, piece_for, IsFirst};
@@ -9,7 +10,7 @@ use hits_input::Parsed;
 
 // A piece at the front of the buffer: its bytes, whether more follows, and over how many values a
 // search follows.
-#[derive(Drop)]
+#[derive(Clone, Copy)]
 pub struct First {
     pub bytes: usize,
     pub more: bool,

@@ -1,5 +1,6 @@
 // The pieces of a search: the lines of the hits of one call after the other, and the attempts.
-ghost use Rattle.lists.specs.Prelude.{◌≡◌, true, false, ◌*◌, ◌≤◌, ◌<◌, length};
+ghost use Rattle.std.specs.Prelude.{◌≡◌, ◌*◌, ◌≤◌, ◌<◌};
+ghost use Rattle.lists.specs.Prelude.{true, false, length};
 ghost use Rattle.hits_calls.specs.Called.{hit_front};
 ghost use Rattle.hits_printed.specs.Pieces.{start, next_piece};
 ghost use Rattle.hits_pieces.specs.Said.{progress_of, IsNext, left};
@@ -9,7 +10,7 @@ use hits_calls::{calls, preparing};
 
 // How far a search has come: the state that the last call handed back, the attempts of all calls,
 // and whether the values have ended.
-#[derive(Drop)]
+#[derive(Clone, Copy)]
 pub struct Progress {
     pub state: SearchState,
     pub attempts: u64,
@@ -18,7 +19,7 @@ pub struct Progress {
 
 // A piece at the front of the buffer: its bytes, whether more follows, and how far the search has
 // come then.
-#[derive(Drop)]
+#[derive(Clone, Copy)]
 pub struct Piece {
     pub bytes: usize,
     pub more: bool,

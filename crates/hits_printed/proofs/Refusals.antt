@@ -2,8 +2,9 @@
 -- there is none the arrays begin with the words of the patterns' set and of its automaton. Each
 -- pattern makes a good set of the one before, and the arrays have room for all that an input may
 -- hold.
-use Rattle.lists.proofs.Prelude.{◌≡◌, ◌∙◌, ap, sym, refl, subst, Bool, true, false, cond, ◌||◌, List, [], ◌∷◌, ◌++◌, map, append-nil, append_assoc}
-use Rattle.lists.proofs.Prelude.{flatten, ℕ, zero, suc, ◌+◌, ◌*◌, ◌≤◌, ◌<◌, ℤ, T, eqb, leb, ltb, leb-false, ltb-false, length, length-append}
+use Rattle.std.specs.Prelude.{◌≡◌, ◌||◌, ◌∷◌, ◌++◌, ◌+◌, ◌*◌, ◌≤◌, ◌<◌}
+use Rattle.lists.proofs.Prelude.{◌∙◌, ap, sym, refl, subst, Bool, true, false, cond, List, [], map, append-nil, append_assoc}
+use Rattle.lists.proofs.Prelude.{flatten, ℕ, zero, suc, ℤ, T, eqb, leb, ltb, leb-false, ltb-false, length, length-append}
 use Rattle.lists.proofs.Prelude.{length-drop, drop, arith, le-ltb, any, all, begins}
 use Rattle.lists.proofs.Parts.{length_snoc}
 use Rattle.lists.proofs.Rows.{flatten_snoc}

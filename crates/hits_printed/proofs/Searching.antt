@@ -1,15 +1,16 @@
 -- The pieces of a search are the lines of the text's hits and the attempts: each call takes what
 -- the reference takes (`call_takes`), at least one value, and its hits are those that the text has
 -- more.
-use Rattle.lists.proofs.Prelude.{◌≡◌, ◌∙◌, ap, sym, refl, subst, Bool, true, false, cond, List, [], ◌++◌, append-nil, append_assoc, flatten, map, ℕ, zero, suc}
-use Rattle.lists.proofs.Prelude.{◌+◌, ◌*◌, ◌%◌, ◌^◌, ◌≤◌, ◌<◌, ℤ, pos, eqb, length, length-append, length-replicate, drop, drop_at, take, replicate, arith}
+use Rattle.std.specs.Prelude.{◌≡◌, ◌++◌, ◌+◌, ◌*◌, ◌%◌, ◌^◌, ◌≤◌, ◌<◌}
+use Rattle.lists.proofs.Prelude.{◌∙◌, ap, sym, refl, subst, Bool, true, false, cond, List, [], append-nil, append_assoc, flatten, map, ℕ, zero, suc}
+use Rattle.lists.proofs.Prelude.{ℤ, pos, eqb, length, length-append, length-replicate, drop, drop_at, take, replicate, arith}
 use Rattle.lists.proofs.Prelude.{le-ltb, ne_eqb}
 use Rattle.lists.proofs.Prelude.{length-drop, drop_of_length-le, eqb_refl, eqb-true, eqb-false, le_refl, tabulate}
 use Rattle.lists.proofs.Parts.{map-append}
 use Rattle.lists.proofs.Rows.{flatten-append}
 use Rattle.lists.proofs.Tests.{true-T}
 use Rattle.answers.specs.declared.SearchState.{SearchState}
-use Rattle.pattern_set.specs.PatternSet.{PatternSet, is_set}
+use Rattle.pattern_set.specs.PatternSet.{PatternSet}
 use Rattle.matching.specs.Matching.{hits}
 use Rattle.search_model.specs.Search.{Position, position_of, good_state, Called, step, call, state_after}
 use Rattle.search_model.proofs.Feed.{feed_takes}

@@ -1,6 +1,7 @@
 -- How much an input holds: at most 1,023 values of patterns, and a text that any search takes.
-use Rattle.lists.proofs.Prelude.{◌≡◌, ap, refl, subst, Bool, true, false, ◌&&◌, Option, none, some, none-ne-some, some-injective, List, [], ◌∷◌}
-use Rattle.lists.proofs.Prelude.{flatten, ℕ, suc, ◌+◌, ◌≤◌, ℤ, eqb, leb, leb-true, length, get_or, arith}
+use Rattle.std.specs.Prelude.{◌≡◌, ◌&&◌, ◌∷◌, ◌+◌, ◌≤◌}
+use Rattle.lists.proofs.Prelude.{ap, refl, subst, Bool, true, false, Option, none, some, none-ne-some, some-injective, List, []}
+use Rattle.lists.proofs.Prelude.{flatten, ℕ, suc, ℤ, eqb, leb, leb-true, length, get_or, arith}
 use Rattle.hits_input.specs.Input.{and_then, when, parts, read_line, Input, read_lines, read_input}
 use Rattle.hits_input.proofs.Cutting.{weight, weight-parts}
 use Rattle.hits_input.proofs.Lines.{line_short}

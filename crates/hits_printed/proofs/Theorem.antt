@@ -1,6 +1,7 @@
 -- THE THEOREM OF THE PIECES: `bad input` and a refusal are all; else the header is followed by the
 -- pieces of the search.
-use Rattle.lists.proofs.Prelude.{◌≡◌, refl, Option, none, some, List, [], map, ℕ, zero, suc, ◌≤◌, length, arith, ne_eqb}
+use Rattle.std.specs.Prelude.{◌≡◌, ◌≤◌}
+use Rattle.lists.proofs.Prelude.{refl, Option, none, some, List, [], map, ℕ, zero, suc, length, arith, ne_eqb}
 use Rattle.cartesian.specs.Cartesian.{distances}
 use Rattle.pattern_set.proofs.Good.{good_set_parts}
 use Rattle.hits_input.specs.Input.{Input, read_input}

@@ -1,7 +1,8 @@
 -- The output of the program `hits`, piece by piece, as its functions leave it in the lent buffer:
 -- what each piece is by the entries' definitions, and the theorem that all of them are what is
 -- printed.
-use Rattle.lists.specs.Prelude.{◌≡◌, Bool, true, false, cond, Option, none, some, List, [], ◌++◌, ℕ, ◌+◌, ◌%◌, ◌^◌, ◌≤◌, eqb, ℤ, pos, length, drop, replicate}
+use Rattle.std.specs.Prelude.{◌≡◌, ◌++◌, ◌+◌, ◌%◌, ◌^◌, ◌≤◌}
+use Rattle.lists.specs.Prelude.{Bool, true, false, cond, Option, none, some, List, [], ℕ, eqb, ℤ, pos, length, drop, replicate}
 use Rattle.answers.specs.declared.SearchState.{SearchState}
 use Rattle.answers.specs.Told.{new_search}
 use Rattle.pattern_set.specs.PatternSet.{patterns_of}

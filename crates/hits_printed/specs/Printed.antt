@@ -1,6 +1,7 @@
 -- What the program `hits` prints for the bytes that it reads, by trees: it knows neither calls nor
 -- arrays nor the automaton. Document 01: Program `hits`.
-use Rattle.lists.specs.Prelude.{cond, ◌||◌, Option, none, some, List, [], ◌∷◌, ◌++◌, map, flatten, ℕ, ◌+◌, eqb, leb, ltb, ℤ, length}
+use Rattle.std.specs.Prelude.{◌||◌, ◌∷◌, ◌++◌, ◌+◌}
+use Rattle.lists.specs.Prelude.{cond, Option, none, some, List, [], map, flatten, ℕ, eqb, leb, ltb, ℤ, length}
 use Rattle.gaps.specs.Gaps.{holds_gap}
 use Rattle.cartesian.specs.Cartesian.{distances}
 use Rattle.pattern_set.specs.PatternSet.{PatternSet, has_one_value}

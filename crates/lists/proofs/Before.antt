@@ -1,6 +1,7 @@
 -- The lexicographic order of lists of numbers: it is irreflexive, transitive and total, and a
 -- common front of two lists does not count.
-use Rattle.lists.proofs.Prelude.{◌≡◌, ◌∙◌, ap, sym, refl, subst, ap₂, inl, inr, ◌⊎◌, ◌&&◌, List, [], ◌∷◌, ◌++◌, append-nil, ℕ, zero, suc, ◌<◌, T, eqb}
+use Rattle.std.specs.Prelude.{◌≡◌, ◌⊎◌, ◌&&◌, ◌∷◌, ◌++◌, ◌<◌}
+use Rattle.lists.proofs.Prelude.{◌∙◌, ap, sym, refl, subst, ap₂, inl, inr, List, [], append-nil, ℕ, zero, suc, T, eqb}
 use Rattle.lists.proofs.Prelude.{ltb, eqb→eq, ltb→lt, lt→ltb, eqb_refl, length, take, drop, take-append-drop, take-length, replicate, dec_lt, arith}
 use Rattle.lists.proofs.Prelude.{begins, before}
 use Rattle.lists.proofs.Tests.{and_split, and_join, or_cases, or_left, or_right}

@@ -1,6 +1,7 @@
 -- How many elements of a list, or numbers below a bound, pass a test.
-use Rattle.lists.proofs.Prelude.{get_or, ◌≡◌, ◌∙◌, ap, sym, refl, subst, Bool, true, false, cond, ◌&&◌, List, [], ◌∷◌, ◌++◌, Memᴰ, Memᴰ-head}
-use Rattle.lists.proofs.Prelude.{Memᴰ-tail, ℕ, zero, suc, ◌+◌, ◌≤◌, ◌<◌, T, length, length-append, length-map, le_refl, add-zero, dec_lt, arith}
+use Rattle.std.specs.Prelude.{◌≡◌, ◌&&◌, ◌∷◌, ◌++◌, ◌+◌, ◌≤◌, ◌<◌}
+use Rattle.lists.proofs.Prelude.{get_or, ◌∙◌, ap, sym, refl, subst, Bool, true, false, cond, List, [], Memᴰ, Memᴰ-head}
+use Rattle.lists.proofs.Prelude.{Memᴰ-tail, ℕ, zero, suc, T, length, length-append, length-map, le_refl, add-zero, dec_lt, arith}
 use Rattle.lists.proofs.Prelude.{tabulate, select}
 use Rattle.lists.proofs.Tests.{true-T}
 use Rattle.lists.proofs.Tables.{map-tabulate}

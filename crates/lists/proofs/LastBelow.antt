@@ -1,6 +1,7 @@
 -- The last place below a number that passes a test, and the greatest number up to a bound that
 -- does.
-use Rattle.lists.proofs.Prelude.{◌≡◌, ap, sym, refl, subst, ap₂, Bool, true, false, cond, ℕ, zero, suc, pred, ◌-◌, ◌≤◌, ◌<◌, zero-le, T, le_refl}
+use Rattle.std.specs.Prelude.{◌≡◌, ◌-◌, ◌≤◌, ◌<◌}
+use Rattle.lists.proofs.Prelude.{ap, sym, refl, subst, ap₂, Bool, true, false, cond, ℕ, zero, suc, pred, zero-le, T, le_refl}
 use Rattle.lists.proofs.Prelude.{le_step, sub-one, dec_lt, arith, last_below}
 
 -- ---- what is found

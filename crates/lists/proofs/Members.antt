@@ -1,6 +1,7 @@
 -- Members of a list: by their places, of mapped lists and tables, and tests of one or all of them.
-use Rattle.lists.proofs.Prelude.{◌++◌, true, false, ◌+◌, ◌≡◌, ◌∙◌, ap, sym, refl, subst, inl, inr, ◌⊎◌, ◌↔◌, Bool, ◌||◌, List, [], ◌∷◌, map, Memᴰ}
-use Rattle.lists.proofs.Prelude.{Memᴰ-head, Memᴰ-tail, Memᴰ-not-nil, Memᴰ-cases_cons, ℕ, zero, suc, ◌≤◌, ◌<◌, T, length, get_or, dec_lt}
+use Rattle.std.specs.Prelude.{◌++◌, ◌+◌, ◌≡◌, ◌⊎◌, ◌↔◌, ◌||◌, ◌∷◌, ◌≤◌, ◌<◌}
+use Rattle.lists.proofs.Prelude.{true, false, ◌∙◌, ap, sym, refl, subst, inl, inr, Bool, List, [], map, Memᴰ}
+use Rattle.lists.proofs.Prelude.{Memᴰ-head, Memᴰ-tail, Memᴰ-not-nil, Memᴰ-cases_cons, ℕ, zero, suc, T, length, get_or, dec_lt}
 use Rattle.lists.proofs.Prelude.{arith, tabulate, any, all, ap₂, take, drop, take-append-drop, take-suc, take_all, add-one}
 use Rattle.lists.proofs.Tests.{T-true, true-T, clash, and_split, and_join, or_cases, or_left, or_right, none_left, none_right, or-false}
 use Rattle.lists.proofs.Tables.{length-tabulate, get_or-tabulate}

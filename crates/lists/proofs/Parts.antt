@@ -1,8 +1,9 @@
 -- Parts of a list: its front, its last elements, and what a part that was written to makes of the
 -- whole.
-use Rattle.lists.proofs.Prelude.{set_split, set_at, append_snoc, drop-cons, drop_at, zero, suc, ◌<◌, ◌-◌, set, sub-one, take-suc, length-take-le}
-use Rattle.lists.proofs.Prelude.{get_or-append-add, get_or-drop, take-append-drop, get_or, ◌≡◌, ◌∙◌, ap, sym, refl, ap₂, List, [], ◌∷◌, ◌++◌, map, append-nil}
-use Rattle.lists.proofs.Prelude.{append_assoc, ℕ, ◌+◌, ◌≤◌, length, take, drop, length-append, length-drop, drop_of_length-le, get_or-take, take_all}
+use Rattle.std.specs.Prelude.{◌<◌, ◌-◌, ◌≡◌, ◌∷◌, ◌++◌, ◌+◌, ◌≤◌}
+use Rattle.lists.proofs.Prelude.{set_split, set_at, append_snoc, drop-cons, drop_at, zero, suc, set, sub-one, take-suc, length-take-le}
+use Rattle.lists.proofs.Prelude.{get_or-append-add, get_or-drop, take-append-drop, get_or, ◌∙◌, ap, sym, refl, ap₂, List, [], map, append-nil}
+use Rattle.lists.proofs.Prelude.{append_assoc, ℕ, length, take, drop, length-append, length-drop, drop_of_length-le, get_or-take, take_all}
 use Rattle.lists.proofs.Prelude.{take_at, drop-drop, take-add, drop-append-le, take-append_seam, drop-append-add, add-one, arith, last_of}
 
 -- ---- no elements

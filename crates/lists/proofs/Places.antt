@@ -1,5 +1,6 @@
 -- The places of a list l ++ (x ∷ r).
-use Rattle.lists.proofs.Prelude.{◌≡◌, ◌∙◌, subst, List, ◌∷◌, ◌++◌, ℕ, suc, ◌+◌, ◌-◌, ◌<◌, length, get_or, take, drop, length-drop, get_or-append}
+use Rattle.std.specs.Prelude.{◌≡◌, ◌∷◌, ◌++◌, ◌+◌, ◌-◌, ◌<◌}
+use Rattle.lists.proofs.Prelude.{◌∙◌, subst, List, ℕ, suc, length, get_or, take, drop, length-drop, get_or-append}
 use Rattle.lists.proofs.Prelude.{length-take-le, get_or-append-add, split_at, dec_lt, arith}
 
 -- a place is among the first n, or is place n, or is one of the m places after that

@@ -1,5 +1,6 @@
 -- Remainders by powers of 2.
-use Rattle.lists.proofs.Prelude.{◌≡◌, ◌∙◌, ap, sym, refl, ℕ, zero, suc, ◌+◌, ◌-◌, ◌*◌, ◌/◌, ◌%◌, ◌^◌, ◌≤◌, ◌<◌, pow-suc, mul-add-mod_self_right, add-mul}
+use Rattle.std.specs.Prelude.{◌≡◌, ◌+◌, ◌-◌, ◌*◌, ◌/◌, ◌%◌, ◌^◌, ◌≤◌, ◌<◌}
+use Rattle.lists.proofs.Prelude.{◌∙◌, ap, sym, refl, ℕ, zero, suc, pow-suc, mul-add-mod_self_right, add-mul}
 use Rattle.lists.proofs.Prelude.{div-add-mod', add_assoc, sub_self, one-mul, mul_right_comm, dvd-mul_left, mod-mod_of_dvd, dec_lt, arith}
 
 pow_split : (i j : ℕ) → i ≤ j → 2 ^ j ≡ 2 ^ (j - i) * 2 ^ i

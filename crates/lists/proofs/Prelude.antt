@@ -1,13 +1,13 @@
 -- What all proofs are written with: what definitions are written with, and the kit's laws and
 -- tactics, under their own names.
-pub use mathlib.Core.Path.{◌≡◌, ◌∙◌, ap, sym, refl, subst, ap₂}
-pub use mathlib.Core.Logic.{inl, inr, ◌⊎◌, ⊎_elim, ◌↔◌}
-pub use mathlib.Core.Bool.{Bool, true, false, cond, not, ◌&&◌, ◌||◌, true≢false, false≢true}
+pub use mathlib.Core.Path.{◌∙◌, ap, sym, refl, subst, ap₂}
+pub use mathlib.Core.Logic.{inl, inr, ⊎_elim}
+pub use mathlib.Core.Bool.{Bool, true, false, cond, not, true≢false, false≢true}
 pub use mathlib.Core.Option.{Option, none, some, some-injective, none-ne-some}
 pub use mathlib.Core.List.Memᴰ.{head as Memᴰ-head}
 pub use mathlib.Core.List.Memᴰ.{not-nil as Memᴰ-not-nil}
 pub use mathlib.Core.List.Memᴰ.{tail as Memᴰ-tail}
-pub use mathlib.Core.List.{List, [], ◌∷◌, ◌++◌, map, foldr, append-nil, Memᴰ, append_assoc}
+pub use mathlib.Core.List.{List, [], map, foldr, append-nil, Memᴰ, append_assoc}
 pub use mathlib.Core.List.Memᴰ.{append_cases as Memᴰ-append_cases}
 pub use mathlib.Core.List.Memᴰ.{append_left as Memᴰ-append_left}
 pub use mathlib.Core.List.Memᴰ.{append_right as Memᴰ-append_right}
@@ -16,9 +16,9 @@ pub use mathlib.Core.List.Memᴰ.{cast as Memᴰ-cast}
 pub use mathlib.Core.List.Memᴰ.{eq_of_singleton as Memᴰ-eq_of_singleton}
 pub use mathlib.Core.List.{nil≢cons, cons≢nil, head-eq_of_cons-eq, tail-eq_of_cons-eq}
 unfoldable pub use mathlib.Core.List.{flatten}
-pub use Prim.Native.Nat.{ℕ, zero, suc, pred, min, ◌+◌, ◌-◌, ◌*◌, ◌/◌, ◌%◌, ◌^◌, ◌≤◌, ◌<◌, zero-le}
-pub use lib.IntN.{ℤ, pos, negsuc, ◌+ℤ◌, ◌-ℤ◌}
-pub use lib.Signed.{le_z, lt_z, ◌≤ℤ◌, ◌<ℤ◌, lt_z_yes, le_z_yes, ≤ℤ_refl, <ℤ-≤ℤ_trans, mag, lt_z_no}
+pub use Prim.Native.Nat.{ℕ, zero, suc, pred, min, zero-le}
+pub use lib.IntN.{ℤ, pos, negsuc}
+pub use lib.Signed.{le_z, lt_z, lt_z_yes, le_z_yes, ≤ℤ_refl, <ℤ-≤ℤ_trans, mag, lt_z_no}
 pub use lib.Dec.{T, eqb, leb, ltb, leb→le, le→leb, eqb→eq, ltb→lt, lt→ltb, eqb_refl, eqb-suc-zero, eqb-suc-suc, eqb-zero-suc, T_not, leb-suc-zero}
 pub use lib.Dec.{not_T}
 pub use lib.ListN.{length, get_or, take, drop, set, replicate, length-append, length-take, length-drop, length-set, drop_of_length-le, get_or-append}

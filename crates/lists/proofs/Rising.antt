@@ -1,11 +1,11 @@
 -- Lists and sequences that rise: every element stands in a relation to all that follow it.
-use Rattle.lists.proofs.Prelude.{◌≡◌, ◌∙◌, ap, sym, refl, subst, ap₂, inl, inr, ◌⊎◌, Bool, true, false, cond, List, [], ◌∷◌, ◌++◌, Memᴰ}
+use Rattle.std.specs.Prelude.{◌≡◌, ◌⊎◌, ◌∷◌, ◌++◌, ◌+◌, ◌≤◌, ◌<◌}
+use Rattle.lists.proofs.Prelude.{◌∙◌, ap, sym, refl, subst, ap₂, inl, inr, Bool, true, false, cond, List, [], Memᴰ}
 use Rattle.lists.proofs.Prelude.{Memᴰ-head, Memᴰ-tail, Memᴰ-not-nil, Memᴰ-cases_cons, Memᴰ-append_cases, Memᴰ-append_left}
-use Rattle.lists.proofs.Prelude.{Memᴰ-append_right, ℕ, zero, suc, ◌+◌, ◌≤◌, ◌<◌, length, get_or, take, drop, length-append, split_at, dec_lt, arith}
+use Rattle.lists.proofs.Prelude.{Memᴰ-append_right, ℕ, zero, suc, length, get_or, take, drop, length-append, split_at, dec_lt, arith}
 use Rattle.lists.proofs.Prelude.{map, flatten, tabulate, select}
 use Rattle.lists.proofs.Members.{get_or-mem, mem-get_or, mem-map, mem_table, mem_below}
 use Rattle.lists.proofs.Rows.{flatten-tabulate, mem-flatten-tabulate}
-use Rattle.lists.proofs.Places.{after}
 use Rattle.lists.proofs.Select.{mem-select}
 
 abbrev pub Rising : {A : Type 0} → (A → A → Type 0) → List A → Type 0

@@ -1,7 +1,8 @@
 -- Rows: lists of lists put end to end by `flatten`, and tables of rows.
-use Rattle.lists.proofs.Prelude.{◌≡◌, ◌∙◌, ap, sym, refl, subst, ap₂, inl, inr, ◌⊎◌, ◌↔◌, List, [], ◌∷◌, ◌++◌, append-nil, Memᴰ, append_assoc}
-use Rattle.lists.proofs.Prelude.{Memᴰ-not-nil, Memᴰ-append_cases, Memᴰ-append_left, Memᴰ-append_right, flatten, ℕ, zero, suc, ◌+◌, ◌-◌, ◌*◌}
-use Rattle.lists.proofs.Prelude.{◌≤◌, ◌<◌, length, get_or, take, drop, length-append, get_or-append, take-append-drop, take-suc, get_or-append-add}
+use Rattle.std.specs.Prelude.{◌≡◌, ◌⊎◌, ◌↔◌, ◌∷◌, ◌++◌, ◌+◌, ◌-◌, ◌*◌, ◌≤◌, ◌<◌}
+use Rattle.lists.proofs.Prelude.{◌∙◌, ap, sym, refl, subst, ap₂, inl, inr, List, [], append-nil, Memᴰ, append_assoc}
+use Rattle.lists.proofs.Prelude.{Memᴰ-not-nil, Memᴰ-append_cases, Memᴰ-append_left, Memᴰ-append_right, flatten, ℕ, zero, suc}
+use Rattle.lists.proofs.Prelude.{length, get_or, take, drop, length-append, get_or-append, take-append-drop, take-suc, get_or-append-add}
 use Rattle.lists.proofs.Prelude.{le_refl, dec_lt, arith, tabulate}
 use Rattle.lists.proofs.Tables.{tabulate_ext, tabulate-cons}
 

@@ -1,6 +1,7 @@
 -- Equal lists of numbers: the tests `same` and `begins`.
-use Rattle.lists.proofs.Prelude.{zero, suc, take-nil, take-take, length-take, ◌≡◌, ◌∙◌, ap, sym, refl, subst, ap₂, ◌↔◌, Bool, true, false, ◌&&◌, List}
-use Rattle.lists.proofs.Prelude.{[], ◌∷◌, ◌++◌, ℕ, T, eqb, eqb→eq, eqb_refl, length, take, drop, take-append-drop, take-append_seam, arith, begins, same}
+use Rattle.std.specs.Prelude.{◌≡◌, ◌↔◌, ◌&&◌, ◌∷◌, ◌++◌}
+use Rattle.lists.proofs.Prelude.{zero, suc, take-nil, take-take, length-take, ◌∙◌, ap, sym, refl, subst, ap₂, Bool, true, false, List}
+use Rattle.lists.proofs.Prelude.{[], ℕ, T, eqb, eqb→eq, eqb_refl, length, take, drop, take-append-drop, take-append_seam, arith, begins, same}
 use Rattle.lists.proofs.Tests.{T-true, true-T, and_split, and_join}
 
 pub same_eq : (xs ys : List ℕ) → T (same xs ys) → xs ≡ ys

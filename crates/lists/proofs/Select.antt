@@ -1,8 +1,9 @@
 -- Selections: who is selected, selections by other tests and of other lists, and elements that pass
 -- and lie side by side.
-use Rattle.lists.proofs.Prelude.{◌≡◌, ◌∙◌, ap, sym, refl, subst, ap₂, inl, inr, ◌⊎◌, ◌↔◌, Bool, true, false, cond, ◌&&◌, none, List, [], ◌∷◌, ◌++◌, map}
-use Rattle.lists.proofs.Prelude.{append-nil, Memᴰ, Memᴰ-head, Memᴰ-tail, Memᴰ-not-nil, Memᴰ-cases_cons, ℕ, zero, suc, ◌+◌, ◌≤◌}
-use Rattle.lists.proofs.Prelude.{◌<◌, T, length, get_or, take, drop, arith, select}
+use Rattle.std.specs.Prelude.{◌≡◌, ◌⊎◌, ◌↔◌, ◌&&◌, ◌∷◌, ◌++◌, ◌+◌, ◌≤◌, ◌<◌}
+use Rattle.lists.proofs.Prelude.{◌∙◌, ap, sym, refl, subst, ap₂, inl, inr, Bool, true, false, cond, List, [], map}
+use Rattle.lists.proofs.Prelude.{append-nil, Memᴰ, Memᴰ-head, Memᴰ-tail, Memᴰ-not-nil, Memᴰ-cases_cons, ℕ, zero, suc}
+use Rattle.lists.proofs.Prelude.{T, length, get_or, take, drop, arith, select}
 use Rattle.lists.proofs.Tests.{T-true, true-T}
 use Rattle.lists.proofs.Members.{mem-get_or}
 

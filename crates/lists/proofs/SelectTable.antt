@@ -1,6 +1,7 @@
 -- Selections of tables, and the places below a number that pass a test.
-use Rattle.lists.proofs.Prelude.{◌≡◌, ◌∙◌, ap, sym, refl, subst, inl, inr, ◌⊎◌, Bool, true, false, cond, List, [], ◌∷◌, ◌++◌, map, ℕ, zero, suc, ◌+◌}
-use Rattle.lists.proofs.Prelude.{◌<◌, T, length, get_or, length-append, get_or-append, length-map, get_or-append_seam, dec_lt, arith, tabulate, last_below}
+use Rattle.std.specs.Prelude.{◌≡◌, ◌⊎◌, ◌∷◌, ◌++◌, ◌+◌, ◌<◌}
+use Rattle.lists.proofs.Prelude.{◌∙◌, ap, sym, refl, subst, inl, inr, Bool, true, false, cond, List, [], map, ℕ, zero, suc}
+use Rattle.lists.proofs.Prelude.{T, length, get_or, length-append, get_or-append, length-map, get_or-append_seam, dec_lt, arith, tabulate, last_below}
 use Rattle.lists.proofs.Prelude.{select}
 use Rattle.lists.proofs.Tests.{T-true, true-T}
 use Rattle.lists.proofs.Tables.{length-tabulate, get_or-tabulate, tabulate-get_or, map-tabulate}
@@ -61,7 +62,8 @@ snoc_place : (l : List ℕ) (n i : ℕ) → i < length (l ++ (n ∷ []))
     → ((i < length l) × (get_or (l ++ (n ∷ [])) i 0 ≡ get_or l i 0)) ⊎ ((i ≡ length l) × (get_or (l ++ (n ∷ [])) i 0 ≡ n))
 snoc_place l n i h = go (dec_lt i (length l)) (rw length-append at h)
   where
-    go : Dec (i < length l) → i < length l + 1 → ((i < length l) × (get_or (l ++ (n ∷ [])) i 0 ≡ get_or l i 0)) ⊎ ((i ≡ length l) × (get_or (l ++ (n ∷ [])) i 0 ≡ n))
+    go : Dec (i < length l) → i < length l + 1 → ((i < length l) × (get_or (l ++ (n ∷ [])) i 0 ≡ get_or l i 0)) ⊎ ((i ≡ length l)
+        × (get_or (l ++ (n ∷ [])) i 0 ≡ n))
     go (yes k) k' = inl (k, get_or-append l (n ∷ []) 0 i k)
     go (no g) k' =
         let e : i ≡ length l = omega arith in

@@ -1,5 +1,6 @@
 -- Tables: the lists that `tabulate` makes.
-use Rattle.lists.proofs.Prelude.{get_or-take, ◌≡◌, ◌∙◌, ap, sym, refl, ap₂, List, [], ◌∷◌, ◌++◌, map, ℕ, zero, suc, ◌+◌, ◌≤◌, ◌<◌, length, get_or, take}
+use Rattle.std.specs.Prelude.{◌≡◌, ◌∷◌, ◌++◌, ◌+◌, ◌≤◌, ◌<◌}
+use Rattle.lists.proofs.Prelude.{get_or-take, ◌∙◌, ap, sym, refl, ap₂, List, [], map, ℕ, zero, suc, length, get_or, take}
 use Rattle.lists.proofs.Prelude.{drop, set, length-append, length-set, get_or-append, drop-cons, take_all, append_snoc, ext_get_or, set_at}
 use Rattle.lists.proofs.Prelude.{get_or-set_same, get_or-set_other, get_or_at, take-append-le, add-one, dec_lt, arith, tabulate}
 use Rattle.lists.proofs.Parts.{map-append}

@@ -1,5 +1,6 @@
 -- Tests: what is true, as a test and as a fact, and tests joined by `and` and `or`.
-use Rattle.lists.proofs.Prelude.{ℕ, zero, suc, ◌<◌, arith, ◌≡◌, sym, refl, subst, inl, inr, ◌⊎◌, Bool, true, false, ◌&&◌, ◌||◌, T, eqb, eqb→eq}
+use Rattle.std.specs.Prelude.{◌<◌, ◌≡◌, ◌⊎◌, ◌&&◌, ◌||◌}
+use Rattle.lists.proofs.Prelude.{ℕ, zero, suc, arith, sym, refl, subst, inl, inr, Bool, true, false, T, eqb, eqb→eq}
 use Rattle.lists.proofs.Prelude.{eq-eqb, eqb-false}
 
 -- a Bool that is true, as a fact, and back

@@ -1,9 +1,10 @@
 -- What all definitions are written with: the library's symbols, under their own names and with
 -- their own meaning, and a few functions on lists.
-pub use mathlib.Core.{Path.{◌≡◌}, Logic.{◌⊎◌, ◌↔◌}, Bool.{Bool, true, false, cond, not, ◌&&◌, ◌||◌}, Option.{Option, none, some}}
-pub use mathlib.Core.List.{List, [], ◌∷◌, ◌++◌, map, flatten, foldr, Memᴰ}
-pub use Rattle.std.specs.Prelude.{ℕ, zero, suc, pred, min, ◌+◌, ◌-◌, ◌*◌, ◌/◌, ◌%◌, ◌^◌, ◌≤◌, ◌<◌}
-pub use lib.{Dec.{T, eqb, leb, ltb}, IntN.{ℤ, pos, negsuc, ◌-ℤ◌}, Signed.{le_z, lt_z, ◌≤ℤ◌}, ListN.{length, get_or, take, drop, set, replicate}}
+pub use mathlib.Core.{Bool.{Bool, true, false, cond, not}, Option.{Option, none, some}}
+pub use mathlib.Core.List.{List, [], map, flatten, foldr, Memᴰ}
+pub use Rattle.std.specs.Prelude.{ℕ, zero, suc, pred, min}
+pub use lib.{Dec.{T, eqb, leb, ltb}, IntN.{ℤ, pos, negsuc}, Signed.{le_z, lt_z}, ListN.{length, get_or, take, drop, set, replicate}}
+use Rattle.std.specs.Prelude.{◌∷◌, ◌++◌, ◌-◌, ◌&&◌, ◌||◌}
 
 -- are two integers the same; `negsuc n` is -(n + 1)
 abbrev pub eq_z : ℤ → ℤ → Bool

@@ -1,8 +1,9 @@
 -- Heads are closed under shortening, and the suffixes of a text that have the tree of some head are
 -- a chain that the failure links enumerate: a tail of a head is a suffix of every text that ends
 -- with the head's tree.
+use Rattle.std.specs.Prelude.{◌≡◌, ◌↔◌, ◌∷◌, ◌-◌, ◌≤◌, ◌<◌}
 use Rattle.lists.proofs.Same.{begins_shorter, same_eq, eq_same}
-use Rattle.lists.proofs.Prelude.{◌≡◌, ◌∙◌, ap, sym, refl, subst, ◌↔◌, Bool, true, false, cond, List, [], ◌∷◌, map, ℕ, zero, suc, pred, ◌-◌, ◌≤◌, ◌<◌, ℤ, T}
+use Rattle.lists.proofs.Prelude.{◌∙◌, ap, sym, refl, subst, Bool, true, false, cond, List, [], map, ℕ, zero, suc, pred, ℤ, T}
 use Rattle.lists.proofs.Prelude.{eqb-suc-zero, length, take, drop_of_length-le, le_refl, arith, last_of, begins, last_below, any, all}
 use Rattle.lists.proofs.Tests.{true-T, test_ext}
 use Rattle.lists.proofs.Members.{any-mem, mem-any, all-mem}
@@ -65,7 +66,8 @@ head_tree_whole ps w t =
     has_tree_whole w (take (length w) r.0) r.2
 
 -- a window without a gap has the tree of some head exactly if its distances are a head
-pub head_tree-is_head : (ps : PatternSet) (window : List ℤ) → holds_gap window ≡ false → T (all realizable ps) → head_tree ps window ≡ is_head ps (distances window)
+pub head_tree-is_head : (ps : PatternSet) (window : List ℤ) → holds_gap window ≡ false → T (all realizable ps) → head_tree ps window
+    ≡ is_head ps (distances window)
 unfolding head_tree is_head
 head_tree-is_head ps w o g =
     test_ext (any (λ p. has_tree w (take (length w) p)) ps) (any (λ p. begins p (distances w)) ps)
@@ -165,7 +167,8 @@ unfolding head_tree has_tree any same_tree tree tree_within tree_of tree_of_with
 empty_head_tree [] h = absurd (let z : ⊥ = omega arith in z)
 empty_head_tree (p ∷ ps) h = tt
 
-chain_within_lem : (ps : PatternSet) (text : List ℤ) → T (head_tree ps (last_of 0 text)) → (k n : ℕ) → n ≤ k → n ≤ length text → T (head_tree ps (last_of n text))
+chain_within_lem : (ps : PatternSet) (text : List ℤ) → T (head_tree ps (last_of 0 text)) → (k n : ℕ) → n ≤ k → n ≤ length text
+    → T (head_tree ps (last_of n text))
     → chain_within k ps (distances (last_of n text)) ≡ map (λ m. distances (last_of m text)) (head_lengths ps text n)
 unfolding chain_within head_lengths
 chain_within_lem ps text z zero zero l h t = refl

@@ -1,6 +1,7 @@
 -- The words of a list of hits: two a hit, and of lists one after the other the words one after the
 -- other.
-use Rattle.lists.proofs.Prelude.{◌≡◌, ap, refl, List, [], ◌∷◌, ◌++◌, ℕ, ◌*◌, length, arith}
+use Rattle.std.specs.Prelude.{◌≡◌, ◌∷◌, ◌++◌, ◌*◌}
+use Rattle.lists.proofs.Prelude.{ap, refl, List, [], ℕ, length, arith}
 use Rattle.matching.specs.Matching.{hit_words}
 
 pub length-hit_words : (hs : List (ℕ × ℕ)) → length (hit_words hs) ≡ 2 * length hs

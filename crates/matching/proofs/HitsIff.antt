@@ -1,8 +1,9 @@
 -- THE LAW OF HITS: a pair of last place and pattern is listed exactly if the window that ends there
 -- and is as long as the pattern has the pattern's tree.
-use Rattle.lists.proofs.Prelude.{◌≡◌, ◌∙◌, ap, sym, refl, subst, inl, inr, ◌⊎◌, ◌↔◌, Bool, true, false, cond, List, [], ◌∷◌, ◌++◌, Memᴰ, Memᴰ-head}
+use Rattle.std.specs.Prelude.{◌≡◌, ◌⊎◌, ◌↔◌, ◌∷◌, ◌++◌, ◌+◌, ◌<◌}
+use Rattle.lists.proofs.Prelude.{◌∙◌, ap, sym, refl, subst, inl, inr, Bool, true, false, cond, List, [], Memᴰ, Memᴰ-head}
 use Rattle.lists.proofs.Prelude.{Memᴰ-tail, Memᴰ-not-nil, Memᴰ-cases_cons, Memᴰ-append_cases, Memᴰ-append_left, Memᴰ-append_right}
-use Rattle.lists.proofs.Prelude.{Memᴰ-cast, ℕ, zero, suc, pred, ◌+◌, ◌<◌, ℤ, T, length, get_or, take, add-zero, zero-add, dec_lt, arith, last_of, last_below, any}
+use Rattle.lists.proofs.Prelude.{Memᴰ-cast, ℕ, zero, suc, pred, ℤ, T, length, get_or, take, add-zero, zero-add, dec_lt, arith, last_of, last_below, any}
 use Rattle.lists.proofs.Parts.{length-last_of}
 use Rattle.lists.proofs.Tests.{T-true}
 use Rattle.lists.proofs.Members.{mem-map}

@@ -1,5 +1,6 @@
 -- Hits and their words: what is read back of words that begin with those of hits.
-use Rattle.lists.proofs.Prelude.{◌≡◌, ◌∙◌, refl, List, [], ◌∷◌, ◌++◌, ℕ, zero, suc, ◌+◌, ◌*◌, ◌<◌, length, get_or, arith}
+use Rattle.std.specs.Prelude.{◌≡◌, ◌∷◌, ◌++◌, ◌+◌, ◌*◌, ◌<◌}
+use Rattle.lists.proofs.Prelude.{◌∙◌, refl, List, [], ℕ, zero, suc, length, get_or, arith}
 use Rattle.lists.proofs.Tables.{tabulate_ext, tabulate-get_or}
 use Rattle.matching.specs.Matching.{hit_words}
 use Rattle.matching.specs.HitsIn.{hit_in, hits_in}

@@ -1,8 +1,9 @@
 -- The hits are in order: by last place, then longer pattern first, then lower number. Tables are
 -- put end to end by last place, windows of one last place by falling length, and the patterns with
 -- the tree of one window are all as long as it and come by number.
-use Rattle.lists.proofs.Prelude.{◌≡◌, ◌∙◌, ap, sym, refl, subst, inl, inr, ◌⊎◌, Bool, true, false, cond, List, [], ◌∷◌, ◌++◌, map, Memᴰ, Memᴰ-head}
-use Rattle.lists.proofs.Prelude.{Memᴰ-tail, Memᴰ-append_cases, flatten, ℕ, zero, suc, ◌+◌, ◌≤◌, ◌<◌, ℤ, length, get_or, take, le_refl, add-zero}
+use Rattle.std.specs.Prelude.{◌≡◌, ◌⊎◌, ◌∷◌, ◌++◌, ◌+◌, ◌≤◌, ◌<◌}
+use Rattle.lists.proofs.Prelude.{◌∙◌, ap, sym, refl, subst, inl, inr, Bool, true, false, cond, List, [], map, Memᴰ, Memᴰ-head}
+use Rattle.lists.proofs.Prelude.{Memᴰ-tail, Memᴰ-append_cases, flatten, ℕ, zero, suc, ℤ, length, get_or, take, le_refl, add-zero}
 use Rattle.lists.proofs.Prelude.{zero-add, arith, last_of, tabulate}
 use Rattle.lists.proofs.Parts.{length-last_of, map-append}
 use Rattle.lists.proofs.Tests.{T-true}

@@ -1,5 +1,6 @@
 -- The numbers of the patterns that have the tree of a window, as those that pass a test.
-use Rattle.lists.proofs.Prelude.{◌≡◌, ◌∙◌, ap, sym, refl, ap₂, Bool, cond, List, [], ◌∷◌, ℕ, suc, ◌+◌, ◌<◌, ℤ, length, get_or, add-zero, arith, tabulate, select}
+use Rattle.std.specs.Prelude.{◌≡◌, ◌∷◌, ◌+◌, ◌<◌}
+use Rattle.lists.proofs.Prelude.{◌∙◌, ap, sym, refl, ap₂, Bool, cond, List, [], ℕ, suc, ℤ, length, get_or, add-zero, arith, tabulate, select}
 use Rattle.lists.proofs.Tables.{tabulate-cons, tabulate_ext}
 use Rattle.pattern_set.specs.PatternSet.{PatternSet}
 use Rattle.matching.specs.Matching.{has_tree, numbers_from}

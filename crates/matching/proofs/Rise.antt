@@ -1,5 +1,6 @@
 -- The rise over a hit depends on the values at the two ends of its window only.
-use Rattle.lists.proofs.Prelude.{◌≡◌, ap₂, [], ℕ, suc, ◌-◌, ℤ, ◌-ℤ◌, length, get_or}
+use Rattle.std.specs.Prelude.{◌≡◌, ◌-◌, ◌-ℤ◌}
+use Rattle.lists.proofs.Prelude.{ap₂, [], ℕ, suc, ℤ, length, get_or}
 use Rattle.pattern_set.specs.PatternSet.{PatternSet}
 use Rattle.matching.specs.Rise.{clamp, rise_over, rise}
 

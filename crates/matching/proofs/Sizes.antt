@@ -1,5 +1,6 @@
 -- A window with the tree of a pattern is as long as the pattern.
-use Rattle.lists.proofs.Prelude.{◌≡◌, ◌∙◌, ap, sym, List, [], ℕ, ℤ, T, length, get_or}
+use Rattle.std.specs.Prelude.{◌≡◌}
+use Rattle.lists.proofs.Prelude.{◌∙◌, ap, sym, List, [], ℕ, ℤ, T, length, get_or}
 use Rattle.cartesian.proofs.Sizes.{size-tree, size-tree_of}
 use Rattle.cartesian.specs.Cartesian.{size}
 use Rattle.pattern_set.specs.PatternSet.{PatternSet}

@@ -1,5 +1,6 @@
 -- A window has the tree of a pattern exactly if it holds no gap and its tree is the pattern's.
-use Rattle.lists.proofs.Prelude.{◌≡◌, refl, Bool, true, false, not, List, ℕ, ℤ, T}
+use Rattle.std.specs.Prelude.{◌≡◌}
+use Rattle.lists.proofs.Prelude.{refl, Bool, true, false, not, List, ℕ, ℤ, T}
 use Rattle.lists.proofs.Tests.{and_split, and_join}
 use Rattle.gaps.specs.Gaps.{holds_gap}
 use Rattle.cartesian.specs.Cartesian.{tree, same_tree, tree_of}

@@ -2,8 +2,9 @@
 -- of pattern j, higher numbers one lower. So it is with the numbers that one window gives, hence
 -- with those at one place, hence with the whole list. The rises over them are what they were, since
 -- the patterns are as long.
-use Rattle.lists.proofs.Prelude.{◌≡◌, ◌∙◌, ap, sym, refl, subst, ap₂, Bool, true, false, cond, not, List, [], ◌∷◌, ◌++◌, map, flatten, ℕ, zero, suc, pred, ◌+◌}
-use Rattle.lists.proofs.Prelude.{◌≤◌, ◌<◌, ℤ, pos, T, eqb, length, get_or, take, length-map, add-zero, zero-add, dec_lt, arith, ne_eqb, eq-eqb, lt-ltb, le-ltb}
+use Rattle.std.specs.Prelude.{◌≡◌, ◌∷◌, ◌++◌, ◌+◌, ◌≤◌, ◌<◌}
+use Rattle.lists.proofs.Prelude.{◌∙◌, ap, sym, refl, subst, ap₂, Bool, true, false, cond, not, List, [], map, flatten, ℕ, zero, suc, pred}
+use Rattle.lists.proofs.Prelude.{ℤ, pos, T, eqb, length, get_or, take, length-map, add-zero, zero-add, dec_lt, arith, ne_eqb, eq-eqb, lt-ltb, le-ltb}
 use Rattle.lists.proofs.Prelude.{last_of, tabulate, select}
 use Rattle.lists.proofs.Parts.{map-append}
 use Rattle.lists.proofs.Select.{select-map, select-append, mem-select}
@@ -54,7 +55,8 @@ module _ (window : List ℤ) where
       go false ih = ih
 
   -- the numbers from i on, of which i + j is withdrawn
-  numbers_without_lem : (i : ℕ) (ps : PatternSet) (j : ℕ) → j < length ps → numbers_from i window (without j ps) ≡ numbers_without (i + j) (numbers_from i window ps)
+  numbers_without_lem : (i : ℕ) (ps : PatternSet) (j : ℕ) → j < length ps → numbers_from i window (without j ps)
+      ≡ numbers_without (i + j) (numbers_from i window ps)
   unfolding numbers_from without
   numbers_without_lem i [] j h = absurd (let z : ⊥ = omega arith in z)
   numbers_without_lem i (p ∷ ps) zero h = rw add-zero (go (has_tree window p))

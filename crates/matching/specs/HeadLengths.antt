@@ -1,5 +1,6 @@
 -- The suffixes of a text that have the tree of some head.
-use Rattle.lists.specs.Prelude.{cond, List, [], ◌∷◌, ℕ, zero, suc, ℤ, last_of}
+use Rattle.std.specs.Prelude.{◌∷◌}
+use Rattle.lists.specs.Prelude.{cond, List, [], ℕ, zero, suc, ℤ, last_of}
 use Rattle.pattern_set.specs.PatternSet.{PatternSet}
 use Rattle.matching.specs.Matching.{head_tree}
 

@@ -1,6 +1,7 @@
 -- What a list of hits must be: every pair of a pattern and a window with equal trees, and no other;
 -- each once, and in order. Document 01: Hits of R; the order of a search's list.
-use Rattle.lists.specs.Prelude.{◌≡◌, ◌⊎◌, ◌↔◌, false, List, [], Memᴰ, ℕ, suc, ◌≤◌, ◌<◌, ℤ, length, get_or, take, last_of}
+use Rattle.std.specs.Prelude.{◌≡◌, ◌⊎◌, ◌↔◌, ◌≤◌, ◌<◌}
+use Rattle.lists.specs.Prelude.{false, List, [], Memᴰ, ℕ, suc, ℤ, length, get_or, take, last_of}
 use Rattle.gaps.specs.Gaps.{holds_gap}
 use Rattle.cartesian.specs.Cartesian.{tree, tree_of}
 use Rattle.pattern_set.specs.PatternSet.{PatternSet}

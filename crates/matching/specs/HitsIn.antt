@@ -1,5 +1,6 @@
 -- The hits that the words of a hit array hold: two words a hit.
-use Rattle.lists.specs.Prelude.{List, ℕ, ◌+◌, ◌*◌, get_or, tabulate}
+use Rattle.std.specs.Prelude.{◌+◌, ◌*◌}
+use Rattle.lists.specs.Prelude.{List, ℕ, get_or, tabulate}
 
 -- hit i
 abbrev pub hit_in : List ℕ → ℕ → ℕ × ℕ

@@ -1,7 +1,8 @@
 -- Search hits, by trees of windows; heads of patterns, and the failure of a head. Document 01: Hits
 -- of R; the order of a search's list; A ladder, its rungs and their falls. Document 02, 2.2: A
 -- window that holds a gap has no tree and is no hit; it is no candidate.
-use Rattle.lists.specs.Prelude.{Bool, cond, not, ◌&&◌, List, [], ◌∷◌, ◌++◌, map, flatten, ℕ, zero, suc, pred, min, eqb, leb, ℤ, length, take, tabulate}
+use Rattle.std.specs.Prelude.{◌&&◌, ◌∷◌, ◌++◌}
+use Rattle.lists.specs.Prelude.{Bool, cond, not, List, [], map, flatten, ℕ, zero, suc, pred, min, eqb, leb, ℤ, length, take, tabulate}
 use Rattle.lists.specs.Prelude.{last_below, last_of, any, select, begins}
 use Rattle.gaps.specs.Gaps.{holds_gap}
 use Rattle.cartesian.specs.Cartesian.{tree, same_tree, tree_of, distances}

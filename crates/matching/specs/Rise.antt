@@ -1,6 +1,7 @@
 -- The rise over a hit. Document 02, 2.7: the last reading minus the first, clamped to the 32-bit
 -- signed range.
-use Rattle.lists.specs.Prelude.{cond, List, [], ℕ, suc, ◌-◌, ℤ, pos, negsuc, ◌-ℤ◌, lt_z, length, get_or}
+use Rattle.std.specs.Prelude.{◌-◌, ◌-ℤ◌}
+use Rattle.lists.specs.Prelude.{cond, List, [], ℕ, suc, ℤ, pos, negsuc, lt_z, length, get_or}
 use Rattle.pattern_set.specs.PatternSet.{PatternSet}
 
 -- the nearest number from -2,147,483,648 to 2,147,483,647

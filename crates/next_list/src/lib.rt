@@ -1,5 +1,8 @@
 // The entry that goes from a list of distances to the next one in the catalogue of its length.
-ghost use Rattle.lists.specs.Prelude.{◌≡◌, true, ◌≤◌, ◌<◌, length};
+#![tactic(auto)]
+
+ghost use Rattle.std.specs.Prelude.{◌≡◌, ◌≤◌, ◌<◌};
+ghost use Rattle.lists.specs.Prelude.{true, length};
 ghost use Rattle.answers.specs.Told.{told_next};
 ghost use Rattle.realization.specs.Realization.{realizable};
 ghost use Rattle.catalogue.specs.Catalogue.{next_list};

@@ -1,7 +1,8 @@
 -- RISES NODE BY NODE: the hits of the patterns that end at a node have one rise, and those listed
 -- at the node given are the ones done so far and then those listed at the present node.
-use Rattle.lists.proofs.Prelude.{◌≡◌, ◌∙◌, ap, sym, refl, ap₂, List, [], ◌∷◌, ◌++◌, map, append-nil, append_assoc, Memᴰ, Memᴰ-head}
-use Rattle.lists.proofs.Prelude.{Memᴰ-tail, ℕ, ◌+◌, ◌-◌, ◌≤◌, ◌<◌, ℤ, T, length, get_or, take, drop, replicate, length-append, length-drop}
+use Rattle.std.specs.Prelude.{◌≡◌, ◌∷◌, ◌++◌, ◌+◌, ◌-◌, ◌≤◌, ◌<◌}
+use Rattle.lists.proofs.Prelude.{◌∙◌, ap, sym, refl, ap₂, List, [], map, append-nil, append_assoc, Memᴰ, Memᴰ-head}
+use Rattle.lists.proofs.Prelude.{Memᴰ-tail, ℕ, ℤ, T, length, get_or, take, drop, replicate, length-append, length-drop}
 use Rattle.lists.proofs.Prelude.{length-map, length-take-le, length-replicate, take-append-drop, take_at, take_all, drop_at, drop-drop, drop_of_length-le}
 use Rattle.lists.proofs.Prelude.{arith}
 use Rattle.lists.proofs.Prelude.{tabulate, same}

@@ -2,7 +2,10 @@
 // node have as many values as the node is deep, so that their windows are one. Document 02, 2.7.
 // The words of the set lie in `set`, which is only there for the contracts, k is the number of its
 // patterns and count the number of nodes.
-ghost use Rattle.lists.specs.Prelude.{◌≡◌, ◌++◌, suc, ◌+◌, ◌≤◌, ◌<◌, length, take, drop};
+#![tactic(auto)]
+
+ghost use Rattle.std.specs.Prelude.{◌≡◌, ◌++◌, ◌+◌, ◌≤◌, ◌<◌};
+ghost use Rattle.lists.specs.Prelude.{suc, length, take, drop};
 ghost use Rattle.pattern_set.specs.PatternSet.{patterns_of};
 ghost use Rattle.automaton_model.specs.Automaton.{head_of, listed};
 ghost use Rattle.search_model.specs.Recent.{found_at};

@@ -1,5 +1,6 @@
 -- The ways through this crate's functions, in the machine's words.
-use Rattle.lists.proofs.Prelude.{◌≡◌, ◌∙◌, ap, sym, refl, subst, ap₂, Bool, true, false, cond, ◌&&◌, List, [], ℕ, zero, suc, ◌+◌, ◌-◌, ◌%◌, ◌≤◌, ◌<◌}
+use Rattle.std.specs.Prelude.{◌≡◌, ◌&&◌, ◌+◌, ◌-◌, ◌%◌, ◌≤◌, ◌<◌}
+use Rattle.lists.proofs.Prelude.{◌∙◌, ap, sym, refl, subst, ap₂, Bool, true, false, cond, List, [], ℕ, zero, suc}
 use Rattle.lists.proofs.Prelude.{ℤ, pos, le_z, T, leb, ltb, ltb→lt, lt→ltb, get_or, set, add-one, dec_lt, arith, le-ltb, lt-ltb, last_below}
 use Rattle.lists.proofs.Tests.{and_split, and_join, test_ext, T-true, true-T}
 use Rattle.lists.proofs.LastBelow.{last_below_yes, last_below_no, last_below_end}

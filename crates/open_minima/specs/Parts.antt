@@ -1,5 +1,6 @@
 -- The ring of open minima by two counters, and what a push leaves in the parts that a caller lends.
-use Rattle.lists.specs.Prelude.{◌≡◌, Bool, true, ◌&&◌, List, ℕ, zero, suc, ◌+◌, ◌-◌, ◌%◌, ◌≤◌, ltb, ℤ, le_z}
+use Rattle.std.specs.Prelude.{◌≡◌, ◌&&◌, ◌+◌, ◌-◌, ◌%◌, ◌≤◌}
+use Rattle.lists.specs.Prelude.{Bool, true, List, ℕ, zero, suc, ltb, ℤ, le_z}
 use Rattle.search_model.specs.Ring.{Ring, place_at, value_at, kept, back, distance_of, pushed}
 use Rattle.open_minima.specs.declared.Kept.{Kept}
 use Rattle.open_minima.specs.declared.Pushed.{Pushed}

@@ -2,7 +2,10 @@
 // the check of a ring that a caller hands in. The open minima have the counters from `first` on to
 // before `next`, the oldest first; counter c lies in slot c mod 256. So a ring of 256 differs from
 // an empty one, in which both counters are the same.
-ghost use Rattle.lists.specs.Prelude.{◌≡◌, true, cond, ◌&&◌, ℕ, ◌+◌, ◌-◌, ◌%◌, ◌≤◌, ◌<◌, leb, ltb, pos, le_z, [], length, get_or, set};
+#![tactic(auto)]
+
+ghost use Rattle.std.specs.Prelude.{◌≡◌, ◌&&◌, ◌+◌, ◌-◌, ◌%◌, ◌≤◌, ◌<◌};
+ghost use Rattle.lists.specs.Prelude.{true, cond, ℕ, leb, ltb, pos, le_z, [], length, get_or, set};
 ghost use Rattle.search_model.specs.Ring.{place_at, kept, good_ring};
 ghost use Rattle.open_minima.specs.Parts.{ring_at, ring_from, AreCounters, follows, in_order, IsKept, IsPushed};
 
@@ -10,7 +13,7 @@ use answers::SearchState;
 
 // What a push answers: the counters of the oldest open minimum and behind the newest, and the
 // distance of the value pushed.
-#[derive(Drop)]
+#[derive(Clone, Copy)]
 pub struct Pushed {
     pub first: usize,
     pub next: usize,
@@ -18,7 +21,7 @@ pub struct Pushed {
 }
 
 // The counter behind the newest open minimum that is kept, and the distance to it, 0 where none is.
-#[derive(Drop)]
+#[derive(Clone, Copy)]
 struct Kept {
     at: usize,
     distance: u32,

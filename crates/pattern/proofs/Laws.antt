@@ -1,7 +1,8 @@
 -- The refusals of the entries on one pattern, in the words of the code's tests: the number of a
 -- refusal is that of the first condition met, and 0 where none is met; the number decides what the
 -- call tells and what it leaves in the lent array.
-use Rattle.lists.proofs.Prelude.{◌≡◌, ◌∙◌, ap, sym, refl, Bool, true, false, not, List, [], ◌∷◌, ◌++◌, ℕ, ◌≤◌, ◌<◌, ℤ, eqb, ltb, length, take, drop, take_at}
+use Rattle.std.specs.Prelude.{◌≡◌, ◌∷◌, ◌++◌, ◌≤◌, ◌<◌}
+use Rattle.lists.proofs.Prelude.{◌∙◌, ap, sym, refl, Bool, true, false, not, List, [], ℕ, ℤ, eqb, ltb, length, take, drop, take_at}
 use Rattle.lists.proofs.Prelude.{eq-eqb, ne_eqb, not-false, lt-ltb, le-ltb, ltb-false}
 use Rattle.lists.proofs.Tables.{length-tabulate}
 use Rattle.gaps.specs.Gaps.{holds_gap}

@@ -1,6 +1,8 @@
 // The entries on one pattern: each tells what it refuses by number, and else writes its result to
 // the front of the lent array.
-ghost use Rattle.lists.specs.Prelude.{◌≡◌, ◌≤◌};
+#![tactic(auto)]
+
+ghost use Rattle.std.specs.Prelude.{◌≡◌, ◌≤◌};
 ghost use Rattle.answers.specs.Told.{told_written, told_encoded};
 ghost use Rattle.global_parents.specs.GlobalParents.{global_parents};
 ghost use Rattle.entries.specs.Entries.{first_met, told, after, distances_entry, list_conditions, list_entry, encode_entry, decode_entry};
@@ -11,7 +13,7 @@ ghost use Rattle.pattern.specs.Checked.{told_checked};
 use answers::{Encoded, Refusal, Written};
 
 // Whether a call goes on.
-#[derive(Drop)]
+#[derive(Clone, Copy)]
 pub enum Checked {
     Accepted,
     Refused(Refusal),

@@ -1,6 +1,7 @@
 -- What a good set is: at most 64 patterns with at most 4,096 distances in all, each a realizable
 -- list of 1 to 256. And that it is good with one pattern more, if that is good and there is room.
-use Rattle.lists.proofs.Prelude.{◌≡◌, ◌∙◌, ap, true, ◌&&◌, List, [], ◌∷◌, ◌++◌, Memᴰ, flatten, ℕ, ◌+◌, ◌≤◌, ◌<◌, T, leb, leb→le, le→leb, length}
+use Rattle.std.specs.Prelude.{◌≡◌, ◌&&◌, ◌∷◌, ◌++◌, ◌+◌, ◌≤◌, ◌<◌}
+use Rattle.lists.proofs.Prelude.{◌∙◌, ap, true, List, [], Memᴰ, flatten, ℕ, T, leb, leb→le, le→leb, length}
 use Rattle.lists.proofs.Prelude.{length-append, arith, all}
 use Rattle.lists.proofs.Tests.{and_split, and_join}
 use Rattle.lists.proofs.Parts.{length_snoc}

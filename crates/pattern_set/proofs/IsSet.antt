@@ -1,6 +1,7 @@
 -- THE LAW OF READING: a set array is exactly one that begins with the words of a good set, and
 -- `patterns_of` answers that set.
-use Rattle.lists.proofs.Prelude.{◌≡◌, refl, sym, ◌∙◌, ap, subst, Bool, false, cond, ◌&&◌, ◌↔◌, List, [], ◌++◌, ℕ, T, begins}
+use Rattle.std.specs.Prelude.{◌≡◌, ◌&&◌, ◌↔◌, ◌++◌}
+use Rattle.lists.proofs.Prelude.{refl, sym, ◌∙◌, ap, subst, Bool, false, cond, List, [], ℕ, T, begins}
 use Rattle.lists.proofs.Tests.{and_split, and_join, T-true, true-T}
 use Rattle.lists.proofs.Same.{begins_iff}
 use Rattle.pattern_set.specs.PatternSet.{PatternSet, set_words, good_set, patterns_in, is_set, IsSet, patterns_of}

@@ -1,6 +1,7 @@
 -- Sets that may be searched: they are good, hold a pattern, and none of one value; and so do those
 -- with a pattern less, where one remains.
-use Rattle.lists.proofs.Prelude.{◌≡◌, ◌∙◌, ap, refl, Bool, false, not, ◌&&◌, ℕ, suc, ◌<◌, T, leb, leb→le, le→leb, length, take, drop, not-true}
+use Rattle.std.specs.Prelude.{◌≡◌, ◌&&◌, ◌<◌}
+use Rattle.lists.proofs.Prelude.{◌∙◌, ap, refl, Bool, false, not, ℕ, suc, T, leb, leb→le, le→leb, length, take, drop, not-true}
 use Rattle.lists.proofs.Tests.{T-true, true-T, and_split, and_join}
 use Rattle.lists.proofs.Members.{any-append, none_take, none_drop}
 use Rattle.pattern_set.specs.PatternSet.{PatternSet, good_set, has_one_value, holds_one_value, may_search, without}

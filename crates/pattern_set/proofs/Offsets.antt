@@ -1,6 +1,7 @@
 -- The offsets of a set in two parts: where the patterns of the first part start, and the offsets of
 -- the second, counted from there on.
-use Rattle.lists.proofs.Prelude.{◌≡◌, ◌∙◌, ap, ap₂, List, [], ◌∷◌, ◌++◌, map, flatten, ℕ, ◌+◌, ◌-◌, length, take, length-append, length-take-le, zero-add}
+use Rattle.std.specs.Prelude.{◌≡◌, ◌∷◌, ◌++◌, ◌+◌, ◌-◌}
+use Rattle.lists.proofs.Prelude.{◌∙◌, ap, ap₂, List, [], map, flatten, ℕ, length, take, length-append, length-take-le, zero-add}
 use Rattle.lists.proofs.Prelude.{arith}
 use Rattle.pattern_set.specs.PatternSet.{PatternSet, offsets}
 use Rattle.pattern_set.proofs.Words.{length-offsets}

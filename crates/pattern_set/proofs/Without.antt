@@ -1,8 +1,9 @@
 -- A set without one of its patterns: its sizes, that it is good where the set was, and its patterns
 -- by the new numbers; and that it is the set before, where that pattern is the last.
-use Rattle.lists.proofs.Prelude.{◌≡◌, ◌∙◌, ap, sym, subst, ap₂, ◌⊎◌, inl, inr, List, [], ◌∷◌, ◌++◌, append-nil, Memᴰ, Memᴰ-append_cases, flatten, ℕ}
-use Rattle.lists.proofs.Prelude.{suc, ◌+◌, ◌-◌, ◌<◌, T, length, get_or, take, drop, length-append, split_at, take-append_seam, drop_of_length-le, arith}
-use Rattle.lists.proofs.Prelude.{Memᴰ-append_left, Memᴰ-append_right, Memᴰ-tail, ◌≤◌, length-take-le, get_or-take, get_or-drop, get_or-append-add}
+use Rattle.std.specs.Prelude.{◌≡◌, ◌⊎◌, ◌∷◌, ◌++◌, ◌+◌, ◌-◌, ◌<◌, ◌≤◌}
+use Rattle.lists.proofs.Prelude.{◌∙◌, ap, sym, subst, ap₂, inl, inr, List, [], append-nil, Memᴰ, Memᴰ-append_cases, flatten, ℕ}
+use Rattle.lists.proofs.Prelude.{suc, T, length, get_or, take, drop, length-append, split_at, take-append_seam, drop_of_length-le, arith}
+use Rattle.lists.proofs.Prelude.{Memᴰ-append_left, Memᴰ-append_right, Memᴰ-tail, length-take-le, get_or-take, get_or-drop, get_or-append-add}
 use Rattle.lists.proofs.Prelude.{get_or-append}
 use Rattle.lists.proofs.Parts.{length_snoc}
 use Rattle.lists.proofs.Members.{all-mem, mem-all}

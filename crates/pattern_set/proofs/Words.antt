@@ -1,6 +1,7 @@
 -- Reading the words of a set gives the set, whatever lies behind them: offset j is the length of
 -- the first j patterns, so the words from offset j up to the next one are pattern j.
-use Rattle.lists.proofs.Prelude.{◌≡◌, ◌∙◌, ap, sym, refl, ap₂, List, [], ◌∷◌, ◌++◌, append-nil, append_assoc, flatten, ℕ, zero, suc, ◌+◌, ◌-◌, ◌≤◌, ◌<◌, length}
+use Rattle.std.specs.Prelude.{◌≡◌, ◌∷◌, ◌++◌, ◌+◌, ◌-◌, ◌≤◌, ◌<◌}
+use Rattle.lists.proofs.Prelude.{◌∙◌, ap, sym, refl, ap₂, List, [], append-nil, append_assoc, flatten, ℕ, zero, suc, length}
 use Rattle.lists.proofs.Prelude.{get_or, take, drop, length-append, take-append_seam, drop-append-add, add-zero, arith}
 use Rattle.lists.proofs.Tables.{tabulate_ext, tabulate-get_or}
 use Rattle.pattern_set.specs.PatternSet.{PatternSet, offsets, set_words, pattern_in, patterns_in}

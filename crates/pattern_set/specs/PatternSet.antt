@@ -1,5 +1,6 @@
 -- Sets of patterns and the words they lie in. Document 01: Set.
-use Rattle.lists.specs.Prelude.{◌≡◌, Bool, true, cond, not, ◌&&◌, List, [], ◌∷◌, ◌++◌, flatten, ℕ, suc, ◌+◌, ◌-◌, eqb, leb, length, get_or, take, drop, tabulate}
+use Rattle.std.specs.Prelude.{◌≡◌, ◌&&◌, ◌∷◌, ◌++◌, ◌+◌, ◌-◌}
+use Rattle.lists.specs.Prelude.{Bool, true, cond, not, List, [], flatten, ℕ, suc, eqb, leb, length, get_or, take, drop, tabulate}
 use Rattle.lists.specs.Prelude.{any, all, begins}
 use Rattle.realization.specs.Realization.{realizable}
 

@@ -1,6 +1,7 @@
 -- Division and remainder as the factorial number system uses them: the digit above a low part, and
 -- the remainder by a product.
-use Rattle.lists.proofs.Prelude.{◌≡◌, ◌∙◌, ap, sym, ℕ, zero, suc, ◌+◌, ◌*◌, ◌/◌, ◌%◌, ◌≤◌, ◌<◌, zero-add, mod-lt, mod-eq_of_lt, mul-add-mod_self_right}
+use Rattle.std.specs.Prelude.{◌≡◌, ◌+◌, ◌*◌, ◌/◌, ◌%◌, ◌≤◌, ◌<◌}
+use Rattle.lists.proofs.Prelude.{◌∙◌, ap, sym, ℕ, zero, suc, zero-add, mod-lt, mod-eq_of_lt, mul-add-mod_self_right}
 use Rattle.lists.proofs.Prelude.{mul-le-mul_right, div-add-mod', mul-pos, add-mul-div_right, div-eq_of_lt, add-mul-mod_self_right, arith}
 use Rattle.ranking.specs.Rank.{factorial}
 

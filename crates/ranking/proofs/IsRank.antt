@@ -1,6 +1,7 @@
 -- A code passes the test exactly if it is the rank of a realizable list of the length: ranking
 -- loses nothing, so the list to test is the one that unranking finds.
-use Rattle.lists.proofs.Prelude.{◌≡◌, ◌∙◌, sym, subst, ap₂, ◌↔◌, List, ℕ, ◌<◌, T, ltb, ltb→lt, lt→ltb, length}
+use Rattle.std.specs.Prelude.{◌≡◌, ◌↔◌, ◌<◌}
+use Rattle.lists.proofs.Prelude.{◌∙◌, sym, subst, ap₂, List, ℕ, T, ltb, ltb→lt, lt→ltb, length}
 use Rattle.lists.proofs.Tests.{and_split, and_join}
 use Rattle.realization.specs.Realization.{Realizable, realizable}
 use Rattle.realization.proofs.Realizable.{realizable_iff, Realizable-Ok}

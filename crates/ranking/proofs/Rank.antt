@@ -1,7 +1,8 @@
 -- The rank is the factorial number system: the distance at place i, which is at most i, is the
 -- digit of weight i!. So ranking and unranking undo one another, for the lists whose distances are
 -- at most their places and the codes below the factorial of the length.
-use Rattle.lists.proofs.Prelude.{◌≡◌, ◌∙◌, sym, refl, subst, ◌↔◌, List, [], ◌∷◌, ◌++◌, ℕ, zero, suc, ◌+◌, ◌*◌, ◌/◌, ◌%◌, ◌<◌, length, get_or, ext_get_or, add-zero}
+use Rattle.std.specs.Prelude.{◌≡◌, ◌↔◌, ◌∷◌, ◌++◌, ◌+◌, ◌*◌, ◌/◌, ◌%◌, ◌<◌}
+use Rattle.lists.proofs.Prelude.{◌∙◌, sym, refl, subst, List, [], ℕ, zero, suc, length, get_or, ext_get_or, add-zero}
 use Rattle.lists.proofs.Prelude.{zero-add, mod-lt, mod-eq_of_lt, mod-one, arith, tabulate}
 use Rattle.lists.proofs.Tables.{length-tabulate, get_or-tabulate}
 use Rattle.cartesian.proofs.Injective.{Ok, Ok-app}

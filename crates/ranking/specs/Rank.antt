@@ -1,6 +1,7 @@
 -- The rank of a list of parent distances in the factorial number system, and back. Document 01:
 -- Code.
-use Rattle.lists.specs.Prelude.{Bool, ◌&&◌, List, [], ◌∷◌, ℕ, zero, suc, ◌+◌, ◌*◌, ◌/◌, ◌%◌, ltb, tabulate}
+use Rattle.std.specs.Prelude.{◌&&◌, ◌∷◌, ◌+◌, ◌*◌, ◌/◌, ◌%◌}
+use Rattle.lists.specs.Prelude.{Bool, List, [], ℕ, zero, suc, ltb, tabulate}
 use Rattle.realization.specs.Realization.{realizable}
 
 unfoldable pub factorial : ℕ → ℕ

@@ -1,7 +1,8 @@
 -- THE PARTS OF A STEP make it: a gap clears the open minima and leads to the root, where nothing is
 -- listed; of a sample the push gives the distance and the open minima, and the advance the node and
 -- the attempts.
-use Rattle.lists.proofs.Prelude.{◌≡◌, ◌∙◌, ap, sym, ap₂, true, false, List, map, ℕ, ◌+◌, ◌-◌, ◌%◌, ◌<◌, ℤ, T, length, arith}
+use Rattle.std.specs.Prelude.{◌≡◌, ◌+◌, ◌-◌, ◌%◌, ◌<◌}
+use Rattle.lists.proofs.Prelude.{◌∙◌, ap, sym, ap₂, true, false, List, map, ℕ, ℤ, T, length, arith}
 use Rattle.gaps.specs.Gaps.{is_gap}
 use Rattle.pattern_set.specs.PatternSet.{PatternSet, good_set}
 use Rattle.automaton_model.specs.Automaton.{head_of, node_of, advance, listed}

@@ -1,5 +1,6 @@
 -- What a value that is read leaves in the arrays that a search keeps apart, and what it answers.
-use Rattle.lists.specs.Prelude.{◌≡◌, List, map, ℕ, ◌+◌, ◌<◌, ℤ, length}
+use Rattle.std.specs.Prelude.{◌≡◌, ◌+◌, ◌<◌}
+use Rattle.lists.specs.Prelude.{List, map, ℕ, ℤ, length}
 use Rattle.pattern_set.specs.PatternSet.{PatternSet}
 use Rattle.automaton_model.specs.Automaton.{nodes, head_of, listed}
 use Rattle.search_model.specs.Search.{Position, step}

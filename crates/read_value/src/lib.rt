@@ -2,7 +2,10 @@
 // made whole: its distance from the open minima, and the node that this leads to. Document 01:
 // Step. Document 02, 2.2. The words of the set lie in `set`, those of its automaton in `automaton`;
 // k is the number of patterns and count that of nodes.
-ghost use Rattle.lists.specs.Prelude.{◌≡◌, true, ◌<◌, pos, length, get_or};
+#![tactic(auto)]
+
+ghost use Rattle.std.specs.Prelude.{◌≡◌, ◌<◌};
+ghost use Rattle.lists.specs.Prelude.{true, pos, length, get_or};
 ghost use Rattle.pattern_set.specs.PatternSet.{patterns_of};
 ghost use Rattle.search_model.specs.Ring.{good_ring};
 ghost use Rattle.automaton_lookup.specs.Made.{Whole};
@@ -11,7 +14,7 @@ ghost use Rattle.read_value.specs.Read.{position_at, IsRead};
 
 // What a value leaves beside the arrays: the counters of the oldest open minimum and behind the
 // newest, the node, and the attempts.
-#[derive(Drop)]
+#[derive(Clone, Copy)]
 pub struct Read {
     pub first: usize,
     pub next: usize,

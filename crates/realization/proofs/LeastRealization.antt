@@ -1,8 +1,9 @@
 -- The least realization has the list, is not negative, and is at every place no larger than any
 -- other such values: by induction on the tree, what is left of a root is above it, so at least one
 -- higher than any bound of the root.
+use Rattle.std.specs.Prelude.{◌≡◌, ◌∷◌, ◌++◌, ◌≤◌, ◌≤ℤ◌, ◌<ℤ◌}
 use Rattle.lists.proofs.Order.{pos_above, ≤ℤ-trans}
-use Rattle.lists.proofs.Prelude.{true, ◌≡◌, ◌∙◌, ap, sym, subst, List, [], ◌∷◌, ◌++◌, map, ℕ, zero, suc, ◌≤◌, ℤ, pos, ◌≤ℤ◌, ◌<ℤ◌, le_z_yes, ≤ℤ_refl, T, le→leb}
+use Rattle.lists.proofs.Prelude.{true, ◌∙◌, ap, sym, subst, List, [], map, ℕ, zero, suc, ℤ, pos, le_z_yes, ≤ℤ_refl, T, le→leb}
 use Rattle.lists.proofs.Prelude.{length, get_or, get_or-map}
 use Rattle.lists.proofs.Tests.{T-true}
 use Rattle.cartesian.proofs.Sizes.{size-tree_of}

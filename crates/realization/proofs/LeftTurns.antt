@@ -1,8 +1,9 @@
 -- The left-turn counts of a tree are values that have this tree: what is left of a root is above
 -- it, what is right of it is not below it.
+use Rattle.std.specs.Prelude.{◌≡◌, ◌∷◌, ◌++◌, ◌+◌, ◌≤◌, ◌≤ℤ◌}
 use Rattle.lists.proofs.Order.{pos-le, pos_step_down, pos_below}
-use Rattle.lists.proofs.Prelude.{length-append, length-map, length, refl, ◌≡◌, ◌∙◌, ap, sym, subst, ap₂, List, [], ◌∷◌, ◌++◌, map, ℕ, zero, suc, ◌+◌, ◌≤◌, ℤ}
-use Rattle.lists.proofs.Prelude.{pos, ◌≤ℤ◌, get_or, le_refl, add-zero, arith}
+use Rattle.lists.proofs.Prelude.{length-append, length-map, length, refl, ◌∙◌, ap, sym, subst, ap₂, List, [], map, ℕ, zero, suc, ℤ}
+use Rattle.lists.proofs.Prelude.{pos, get_or, le_refl, add-zero, arith}
 use Rattle.lists.proofs.Parts.{map-append}
 use Rattle.cartesian.specs.Cartesian.{Tree, leaf, node, size, distances}
 use Rattle.cartesian.proofs.HasTree.{Over, over_nil, over_cons, HasTree, empty, root}

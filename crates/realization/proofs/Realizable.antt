@@ -1,6 +1,7 @@
 -- `realizable` decides exactly whether some values have a list of distances: values that have it
 -- have the tree that the list stands for, and the left turns of that tree have it too.
-use Rattle.lists.proofs.Prelude.{◌≡◌, ◌∙◌, ap, sym, subst, ◌↔◌, List, ℕ, T}
+use Rattle.std.specs.Prelude.{◌≡◌, ◌↔◌}
+use Rattle.lists.proofs.Prelude.{◌∙◌, ap, sym, subst, List, ℕ, T}
 use Rattle.lists.proofs.Same.{same_eq, eq_same}
 use Rattle.cartesian.specs.Cartesian.{Tree, tree, distances, tree_of}
 use Rattle.cartesian.proofs.HasTree.{tree_has}

@@ -1,5 +1,6 @@
 -- The distances of a tail of a realizable list.
-use Rattle.lists.proofs.Prelude.{◌≡◌, ◌∙◌, ap, sym, List, ℕ, T, length, arith, last_of}
+use Rattle.std.specs.Prelude.{◌≡◌}
+use Rattle.lists.proofs.Prelude.{◌∙◌, ap, sym, List, ℕ, T, length, arith, last_of}
 use Rattle.lists.proofs.Parts.{last_of_all}
 use Rattle.cartesian.specs.Cartesian.{distances}
 use Rattle.cartesian.specs.Windows.{suffix_distances}

@@ -1,10 +1,11 @@
 -- The walk decides exactly whether some values have a list of distances. A walk that accepts
 -- grows a tree, whose open places are those of its right path; the distances of a tree are
 -- accepted, since putting a root before a list adds one open place below all others.
+use Rattle.std.specs.Prelude.{◌≡◌, ◌⊎◌, ◌↔◌, ◌||◌, ◌∷◌, ◌++◌, ◌+◌, ◌≤◌}
 use Rattle.lists.proofs.Members.{any-append}
 use Rattle.lists.proofs.Parts.{map-append}
-use Rattle.lists.proofs.Prelude.{◌≡◌, ◌∙◌, ap, sym, refl, subst, inl, inr, ◌⊎◌, ⊎_elim, ◌↔◌, Bool, true, false, cond, ◌||◌, List, [], ◌∷◌, ◌++◌, map}
-use Rattle.lists.proofs.Prelude.{append-nil, append_assoc, ℕ, zero, suc, ◌+◌, ◌≤◌, pos, T, eqb, leb, eqb→eq, eqb_refl, length, add-zero, arith, le-leb, lt-leb}
+use Rattle.lists.proofs.Prelude.{◌∙◌, ap, sym, refl, subst, inl, inr, ⊎_elim, Bool, true, false, cond, List, [], map}
+use Rattle.lists.proofs.Prelude.{append-nil, append_assoc, ℕ, zero, suc, pos, T, eqb, leb, eqb→eq, eqb_refl, length, add-zero, arith, le-leb, lt-leb}
 use Rattle.lists.proofs.Prelude.{eqb-true, eqb-false, replicate, any, select}
 use Rattle.lists.proofs.Select.{select-append}
 use Rattle.lists.proofs.Tests.{test_ext, and_split, and_join, or_cases, or_left, or_right}
@@ -128,7 +129,8 @@ insert_distances zero (node l r) h = refl
 insert_distances (suc d) (node l r) h = go (eqb d (size r)) refl (insert_distances (suc d) r)
   where
     go : (b : Bool) → eqb d (size r) ≡ b → (T (any (eqb (suc d)) (right_path r)) → tree_distances (insert_last (suc d) r) ≡ tree_distances r ++ (suc d ∷ []))
-        → tree_distances (cond b (node l (node r leaf)) (node l (insert_last (suc d) r))) ≡ (tree_distances l ++ (0 ∷ lift 1 (tree_distances r))) ++ (suc d ∷ [])
+        → tree_distances (cond b (node l (node r leaf)) (node l (insert_last (suc d) r)))
+        ≡ (tree_distances l ++ (0 ∷ lift 1 (tree_distances r))) ++ (suc d ∷ [])
     go true e ih =
         let q : 1 + length (tree_distances r) ≡ suc d = omega (arith, length-tree_distances r, eqb-true d (size r) e) in
         rw (lift-append 1 (tree_distances r) (0 ∷ []), q, append_assoc) refl
@@ -142,7 +144,8 @@ insert_right_path (suc d) leaf h = absurd h
 insert_right_path zero (node l r) h = refl
 insert_right_path (suc d) (node l r) h = go (eqb d (size r)) refl (insert_right_path (suc d) r)
   where
-    go : (b : Bool) → eqb d (size r) ≡ b → (T (any (eqb (suc d)) (right_path r)) → right_path (insert_last (suc d) r) ≡ 1 ∷ map suc (keep (suc d) (right_path r)))
+    go : (b : Bool) → eqb d (size r) ≡ b → (T (any (eqb (suc d)) (right_path r)) → right_path (insert_last (suc d) r)
+        ≡ 1 ∷ map suc (keep (suc d) (right_path r)))
         → right_path (cond b (node l (node r leaf)) (node l (insert_last (suc d) r))) ≡ 1 ∷ map suc (keep (suc d) (right_path r ++ (suc (size r) ∷ [])))
     go true e ih =
         let q : d ≡ size r = eqb-true d (size r) e in

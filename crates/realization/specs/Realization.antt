@@ -1,6 +1,7 @@
 -- Lists of parent distances that some values have, the least such values, and the failure function.
 -- Document 01: Possible lists; Least readings; Fall length.
-use Rattle.lists.specs.Prelude.{◌≡◌, Bool, List, [], ◌∷◌, ◌++◌, map, ℕ, suc, pred, ℤ, pos, ◌≤ℤ◌, length, get_or, take, tabulate, last_below, last_of, same}
+use Rattle.std.specs.Prelude.{◌≡◌, ◌∷◌, ◌++◌, ◌≤ℤ◌}
+use Rattle.lists.specs.Prelude.{Bool, List, [], map, ℕ, suc, pred, ℤ, pos, length, get_or, take, tabulate, last_below, last_of, same}
 use Rattle.cartesian.specs.Cartesian.{distances, Tree, leaf, node, tree_of, tree, same_tree}
 
 -- ---- Lists of parent distances that some values have. Document 01: Possible lists.

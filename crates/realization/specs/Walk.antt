@@ -1,6 +1,7 @@
 -- A walk over a list of distances that keeps how far back each open place is, nearest first. It
 -- accepts exactly the realizable lists (law `realizable-walk`), and is how the code decides.
-use Rattle.lists.specs.Prelude.{Bool, true, ◌&&◌, List, [], ◌∷◌, map, ℕ, zero, suc, eqb, leb, any, select}
+use Rattle.std.specs.Prelude.{◌&&◌, ◌∷◌}
+use Rattle.lists.specs.Prelude.{Bool, true, List, [], map, ℕ, zero, suc, eqb, leb, any, select}
 
 -- a distance leads to an open place, or, where it is 0, to none
 abbrev pub leads : ℕ → List ℕ → Bool

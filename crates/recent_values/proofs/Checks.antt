@@ -1,6 +1,7 @@
 -- The ways through this crate's functions, in the machine's words: the two tests of the values
 -- kept, and the values of a call put one after the other.
-use Rattle.lists.proofs.Prelude.{◌≡◌, ◌∙◌, ap, sym, refl, Bool, true, false, ◌&&◌, ◌||◌, List, [], ◌∷◌, ◌++◌, ℕ, zero, suc, ◌+◌, ◌%◌, ◌≤◌, ◌<◌, ℤ, pos}
+use Rattle.std.specs.Prelude.{◌≡◌, ◌&&◌, ◌||◌, ◌∷◌, ◌++◌, ◌+◌, ◌%◌, ◌≤◌, ◌<◌}
+use Rattle.lists.proofs.Prelude.{◌∙◌, ap, sym, refl, Bool, true, false, List, [], ℕ, zero, suc, ℤ, pos}
 use Rattle.lists.proofs.Prelude.{eq_z, ltb, le-ltb, lt-ltb, length, get_or, set, take, drop, take-suc, drop-append-le, drop_of_length-le, length-drop}
 use Rattle.lists.proofs.Prelude.{length-take-le, add-one, arith, tabulate, all}
 use Rattle.lists.proofs.Tests.{T-true, true-T}

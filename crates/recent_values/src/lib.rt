@@ -1,7 +1,10 @@
 // The last 256 values that a search has taken, in an array that the caller lends: the check of
 // those that a caller hands in, and the values of a call kept. The value of place p lies in slot p
 // mod 256. Document 02, 2.7.
-ghost use Rattle.lists.specs.Prelude.{◌≡◌, ◌+◌, ◌≤◌, ◌<◌, pos, eq_z, length, get_or, take};
+#![tactic(auto)]
+
+ghost use Rattle.std.specs.Prelude.{◌≡◌, ◌+◌, ◌≤◌, ◌<◌};
+ghost use Rattle.lists.specs.Prelude.{pos, eq_z, length, get_or, take};
 ghost use Rattle.search_model.specs.Recent.{kept_for, keeping, unfilled_from, kept_minima, good_recent};
 ghost use Rattle.open_minima.specs.Parts.{ring_at};
 

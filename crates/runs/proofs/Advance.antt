@@ -1,7 +1,8 @@
 -- ONE STEP OF THE AUTOMATON IS ONE STEP OF THE REFERENCE: from the head of the longest suffix the
 -- failure links lead from one suffix with the tree of some head to the next shorter one, up to the
 -- first that has it also with the value behind it; each of them costs one attempt.
-use Rattle.lists.proofs.Prelude.{◌≡◌, ◌∙◌, ap, sym, refl, ap₂, Bool, true, false, ◌&&◌, List, [], ◌∷◌, ◌++◌, ℕ, zero, suc, pred, ◌≤◌, ◌<◌, ℤ, T, leb, leb→le}
+use Rattle.std.specs.Prelude.{◌≡◌, ◌&&◌, ◌∷◌, ◌++◌, ◌≤◌, ◌<◌}
+use Rattle.lists.proofs.Prelude.{◌∙◌, ap, sym, refl, ap₂, Bool, true, false, List, [], ℕ, zero, suc, pred, ℤ, T, leb, leb→le}
 use Rattle.lists.proofs.Prelude.{le→leb, length, le_refl, dec_lt, arith, last_of, tabulate, last_below, select}
 use Rattle.lists.proofs.Tests.{and_split, and_join, T-true, true-T}
 use Rattle.lists.proofs.Parts.{length-last_of, last_of_snoc}
@@ -31,7 +32,8 @@ next_shorter : (ps : PatternSet) (text : List ℤ) (n : ℕ) → 0 < length ps �
 next_shorter ps text n z h = go (last_below (head_suffix ps text) n) refl
   where
     go : (k : ℕ) → last_below (head_suffix ps text) n ≡ k → (r : ℕ) × (last_below (head_suffix ps text) n ≡ suc r) × (r < n) × T (head_suffix ps text r)
-    go zero e = absurd (last_below_none (head_suffix ps text) n 0 (let y : last_below (head_suffix ps text) n ≤ 0 = omega arith in y) h (empty_suffix ps text z))
+    go zero e = absurd (last_below_none (head_suffix ps text) n 0 (let y : last_below (head_suffix ps text) n ≤ 0 = omega arith in y) h
+        (empty_suffix ps text z))
     go (suc r) e = (r, e, omega (arith, last_below-le (head_suffix ps text) n), last_below_passes (head_suffix ps text) n r e)
 
 -- the last suffix tried is the only one tried up to it
@@ -93,7 +95,8 @@ advance_within_lem ps text x d q o g z s (suc k) n l h b t f c = go (dec_lt q n)
     extends : is_head ps (extended (distances (last_of n text)) d) ≡ head_tree ps (last_of n text ++ (x ∷ []))
     extends =
         ap (is_head ps) (extended_is n text x d h (c n (le_refl n)))
-        ∙ sym (head_tree-is_head ps (last_of n text ++ (x ∷ [])) (snoc_none (last_of n text) x (head_tree_whole ps (last_of n text) t) o) (good_realizable ps g))
+        ∙ sym (head_tree-is_head ps (last_of n text ++ (x ∷ [])) (snoc_none (last_of n text) x (head_tree_whole ps (last_of n text) t) o)
+        (good_realizable ps g))
 
     stops : n ≡ q → advance_within (suc k) ps (distances (last_of n text)) d ≡ (distances (last_of q text ++ (x ∷ [])), count (tried ps text q) (suc n))
     stops e =

@@ -1,6 +1,7 @@
 -- The attempts of a value and the growth of the longest head together are at most two: every
 -- attempt but the last one shortens the suffix, and a gap makes none.
-use Rattle.lists.proofs.Prelude.{◌≡◌, refl, Bool, true, false, List, [], ◌∷◌, ◌++◌, ℕ, suc, ◌+◌, ◌≤◌, ◌<◌, ℤ, T, leb, leb→le, length, arith}
+use Rattle.std.specs.Prelude.{◌≡◌, ◌∷◌, ◌++◌, ◌+◌, ◌≤◌, ◌<◌}
+use Rattle.lists.proofs.Prelude.{refl, Bool, true, false, List, [], ℕ, suc, ℤ, T, leb, leb→le, length, arith}
 use Rattle.lists.proofs.Tests.{and_split}
 use Rattle.lists.proofs.Counting.{count_from}
 use Rattle.gaps.specs.Gaps.{is_gap}

@@ -1,7 +1,8 @@
 -- An accepted call of the stream search takes the values that the reference takes, with its hits
 -- and attempts: by induction on the values, one step after the other.
-use Rattle.lists.proofs.Prelude.{◌≡◌, ◌∙◌, ap, sym, refl, subst, ap₂, inl, inr, ◌⊎◌, Bool, true, false, cond, List, [], ◌∷◌, ◌++◌, map, append-nil}
-use Rattle.lists.proofs.Prelude.{append_assoc, Memᴰ, Memᴰ-not-nil, Memᴰ-append_cases, flatten, ℕ, suc, ◌+◌, ◌-◌, ◌*◌, ◌≤◌, ◌<◌, ℤ, T, eqb, leb}
+use Rattle.std.specs.Prelude.{◌≡◌, ◌⊎◌, ◌∷◌, ◌++◌, ◌+◌, ◌-◌, ◌*◌, ◌≤◌, ◌<◌}
+use Rattle.lists.proofs.Prelude.{◌∙◌, ap, sym, refl, subst, ap₂, inl, inr, Bool, true, false, cond, List, [], map, append-nil}
+use Rattle.lists.proofs.Prelude.{append_assoc, Memᴰ, Memᴰ-not-nil, Memᴰ-append_cases, flatten, ℕ, suc, ℤ, T, eqb, leb}
 use Rattle.lists.proofs.Prelude.{ltb, leb→le, eqb-suc-suc, eqb-zero-suc, le→leb, length, take, length-map, take_all, take-append-le, arith, le-leb, lt-leb}
 use Rattle.lists.proofs.Prelude.{ltb-true}
 use Rattle.lists.proofs.Prelude.{ltb-false, tabulate, select}
@@ -25,7 +26,8 @@ hits_same : (ps : PatternSet) (text : List ℤ) (x : ℤ) (p : ℕ) → p < leng
 unfolding hits_at
 hits_same ps text x p h = ap (λ (l : List ℤ). map (λ j. (p, j)) (last_hits ps l)) (take-append-le (suc p) text (x ∷ []) h)
 
-hits_new : (ps : PatternSet) (text : List ℤ) (x : ℤ) → hits_at ps (text ++ (x ∷ [])) (length text) ≡ map (λ j. (length text, j)) (last_hits ps (text ++ (x ∷ [])))
+hits_new : (ps : PatternSet) (text : List ℤ) (x : ℤ) → hits_at ps (text ++ (x ∷ [])) (length text)
+    ≡ map (λ j. (length text, j)) (last_hits ps (text ++ (x ∷ [])))
 unfolding hits_at
 hits_new ps text x =
     ap (λ (l : List ℤ). map (λ j. (length text, j)) (last_hits ps l))

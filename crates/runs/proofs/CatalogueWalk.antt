@@ -1,6 +1,7 @@
 -- The walk by calls is the walk from each list to its next one: a call over a realizable list with
 -- room for it is accepted, and tells exactly that.
-use Rattle.lists.proofs.Prelude.{◌≡◌, ◌∙◌, ap, sym, refl, subst, some-injective, none-ne-some, List, [], ◌∷◌, ◌++◌, ℕ, ◌≤◌, ◌<◌}
+use Rattle.std.specs.Prelude.{◌≡◌, ◌∷◌, ◌++◌, ◌≤◌, ◌<◌}
+use Rattle.lists.proofs.Prelude.{◌∙◌, ap, sym, refl, subst, some-injective, none-ne-some, List, [], ℕ}
 use Rattle.lists.proofs.Prelude.{length, take, drop, replicate, length-replicate, take_at, arith}
 use Rattle.lists.proofs.Tests.{true-T}
 use Rattle.realization.specs.Realization.{Realizable, realizable}

@@ -1,6 +1,7 @@
 -- The demands hold: each part is a law of the crate of its topic. The run theorem of demand 3 is
 -- proved in Run.antt.
-use Rattle.lists.proofs.Prelude.{◌≡◌, ap, refl, ◌++◌, ℕ, zero, suc, ◌*◌, ◌<◌, length, drop, arith}
+use Rattle.std.specs.Prelude.{◌≡◌, ◌++◌, ◌*◌, ◌<◌}
+use Rattle.lists.proofs.Prelude.{ap, refl, ℕ, zero, suc, length, drop, arith}
 use Rattle.entries.specs.Entries.{first_met, unless, stream_conditions, stream_call}
 use Rattle.entries.proofs.Searchable.{searched_iff}
 use Rattle.entries.proofs.Stream.{accepted_room}

@@ -1,6 +1,7 @@
 -- THE FIRST HIT THEOREM: the hits of a front come first, and a hit at the last place of the front
 -- is one of them; so the first hit of the text is the first of every text with that front.
-use Rattle.lists.proofs.Prelude.{◌≡◌, ◌∙◌, ap, sym, refl, subst, List, [], ◌∷◌, ◌++◌, Memᴰ, Memᴰ-not-nil, ℕ, suc, ℤ, ltb, length, take, drop}
+use Rattle.std.specs.Prelude.{◌≡◌, ◌∷◌, ◌++◌}
+use Rattle.lists.proofs.Prelude.{◌∙◌, ap, sym, refl, subst, List, [], Memᴰ, Memᴰ-not-nil, ℕ, suc, ℤ, ltb, length, take, drop}
 use Rattle.lists.proofs.Prelude.{get_or, Memᴰ-head, length-take-le, take_all, take-append-drop, arith, le-ltb}
 use Rattle.pattern_set.specs.PatternSet.{PatternSet, patterns_of}
 use Rattle.matching.specs.Matching.{hits}

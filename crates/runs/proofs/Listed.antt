@@ -2,8 +2,9 @@
 -- text's last place, in the same order: the heads on its failure links are the suffixes that have
 -- the tree of some head, longest first, and a window without the tree of a head has the tree of no
 -- pattern.
-use Rattle.lists.proofs.Prelude.{◌≡◌, ◌∙◌, ap, sym, refl, subst, ap₂, Bool, true, false, cond, List, [], ◌∷◌, ◌++◌, map, append-nil, Memᴰ, Memᴰ-head}
-use Rattle.lists.proofs.Prelude.{Memᴰ-tail, flatten, ℕ, zero, suc, ◌+◌, ◌≤◌, ◌<◌, ℤ, T, length, get_or, take, take_all, zero-add, dec_lt, arith, last_of}
+use Rattle.std.specs.Prelude.{◌≡◌, ◌∷◌, ◌++◌, ◌+◌, ◌≤◌, ◌<◌}
+use Rattle.lists.proofs.Prelude.{◌∙◌, ap, sym, refl, subst, ap₂, Bool, true, false, cond, List, [], map, append-nil, Memᴰ, Memᴰ-head}
+use Rattle.lists.proofs.Prelude.{Memᴰ-tail, flatten, ℕ, zero, suc, ℤ, T, length, get_or, take, take_all, zero-add, dec_lt, arith, last_of}
 use Rattle.lists.proofs.Prelude.{select, same}
 use Rattle.lists.proofs.Members.{get_or-mem, mem-any}
 use Rattle.lists.proofs.Tables.{tabulate_ext}
@@ -40,7 +41,8 @@ pub ending_at_is : (ps : PatternSet) (window : List ℤ) → holds_gap window �
 ending_at_is ps w o g =
     let test : ℕ → Bool = λ j. same (get_or ps j []) (distances w) in
     ap (select test) (tabulate_ext (length ps) (λ j. j) (λ j. 0 + j) (λ j l. sym (zero-add j)))
-    ∙ select_numbers test w 0 ps (λ k l. ap test (zero-add k) ∙ same-has_tree (get_or ps k []) w o (good_pattern_lem ps (get_or ps k []) g (get_or-mem ps k [] l)).2)
+    ∙ select_numbers test w 0 ps (λ k l. ap test (zero-add k) ∙ same-has_tree (get_or ps k []) w o
+    (good_pattern_lem ps (get_or ps k []) g (get_or-mem ps k [] l)).2)
 
 -- ---- the patterns that have the tree of one window
 

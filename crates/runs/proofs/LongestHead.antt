@@ -1,7 +1,8 @@
 -- The longest suffix of a text that has the tree of some head, and the longest one that has it also
 -- with the next value behind it: the latter, with that value, is the longest such suffix of the
 -- longer text.
-use Rattle.lists.proofs.Prelude.{◌≡◌, sym, subst, Bool, true, false, ◌&&◌, List, [], ◌∷◌, ◌++◌, ℕ, zero, suc, ◌≤◌, ◌<◌, ℤ, T, length, take, length-take}
+use Rattle.std.specs.Prelude.{◌≡◌, ◌&&◌, ◌∷◌, ◌++◌, ◌≤◌, ◌<◌}
+use Rattle.lists.proofs.Prelude.{sym, subst, Bool, true, false, List, [], ℕ, zero, suc, ℤ, T, length, take, length-take}
 use Rattle.lists.proofs.Prelude.{arith, last_of}
 use Rattle.lists.proofs.Tests.{and_split, and_join}
 use Rattle.lists.proofs.Members.{any-mem}

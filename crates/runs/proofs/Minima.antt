@@ -1,9 +1,10 @@
 -- The open minima of a ring are those of the text: what that says, that it holds of a new search,
 -- and that such a ring passes the check of the open minima. The places rise as they are selected
 -- from 0, 1, 2, ..; the last value is open; and no value after an open one is smaller.
-use Rattle.lists.proofs.Prelude.{◌≡◌, ◌∙◌, ap, sym, refl, subst, inl, inr, ◌⊎◌, Bool, true, false, not, ◌&&◌, ◌||◌, List, [], ◌∷◌, ◌++◌, map, ℕ, suc, pred}
-use Rattle.lists.proofs.Prelude.{◌+◌, ◌<◌, ℤ, pos, le_z, T, leb, leb→le, le→leb, length, get_or, length-append, get_or-append, length-replicate}
-use Rattle.lists.proofs.Prelude.{get_or-append_seam, add-one, dec_lt, arith, tabulate, select, all, drop, drop-append-le, drop-append_seam, last_of, ◌-◌, ◌≤◌}
+use Rattle.std.specs.Prelude.{◌≡◌, ◌⊎◌, ◌&&◌, ◌||◌, ◌∷◌, ◌++◌, ◌+◌, ◌<◌, ◌-◌, ◌≤◌}
+use Rattle.lists.proofs.Prelude.{◌∙◌, ap, sym, refl, subst, inl, inr, Bool, true, false, not, List, [], map, ℕ, suc, pred}
+use Rattle.lists.proofs.Prelude.{ℤ, pos, le_z, T, leb, leb→le, le→leb, length, get_or, length-append, get_or-append, length-replicate}
+use Rattle.lists.proofs.Prelude.{get_or-append_seam, add-one, dec_lt, arith, tabulate, select, all, drop, drop-append-le, drop-append_seam, last_of}
 use Rattle.lists.proofs.Tables.{map-tabulate, tabulate_at}
 use Rattle.lists.proofs.Select.{select_empty, select-select, select_snoc}
 use Rattle.lists.proofs.SelectTable.{select_below_ext, Selected, selected}
@@ -87,7 +88,8 @@ drop_more : (text : List ℤ) (x : ℤ) (i : ℕ) → i ≤ length text → drop
 drop_more text x i h = drop-append-le i text (x ∷ []) h
 
 -- an open minimum stays one if the new value is a sample and its value is not above it
-is_open_before : (text : List ℤ) (x : ℤ) → is_gap x ≡ false → (i : ℕ) → i < length text → is_open (text ++ (x ∷ [])) i ≡ is_open text i && le_z (value_of text i) x
+is_open_before : (text : List ℤ) (x : ℤ) → is_gap x ≡ false → (i : ℕ) → i < length text → is_open (text ++ (x ∷ [])) i
+    ≡ is_open text i && le_z (value_of text i) x
 is_open_before text x o i h = test_ext (is_open (text ++ (x ∷ [])) i) (is_open text i && le_z (value_of text i) x)
     (λ t. and_join (is_open text i) (le_z (value_of text i) x) (open_from text i (whole t) (λ j l k. before t j l k)) (last t))
     (λ t. let p = and_split (is_open text i) (le_z (value_of text i) x) t in open_from (text ++ (x ∷ [])) i (whole_more p.0)

@@ -3,8 +3,9 @@
 -- minima, so those that are not above the new value are a front of them, which `kept` counts. The
 -- greatest place whose value is not above the new one, if the window holds it, is an open minimum,
 -- so it is the last of that front.
-use Rattle.lists.proofs.Prelude.{◌≡◌, ◌∙◌, ap, sym, refl, ap₂, inl, inr, ◌⊎◌, Bool, false, List, [], ◌∷◌, ◌++◌, map, ℕ, zero, suc, ◌+◌, ◌-◌, ◌≤◌, ◌<◌, ℤ, pos}
-use Rattle.lists.proofs.Prelude.{le_z, ◌≤ℤ◌, ◌<ℤ◌, T, leb, le→leb, length, length-set, get_or-set_same, get_or-set_other, add-one, dec_lt, arith, le-leb, lt-leb}
+use Rattle.std.specs.Prelude.{◌≡◌, ◌⊎◌, ◌∷◌, ◌++◌, ◌+◌, ◌-◌, ◌≤◌, ◌<◌, ◌≤ℤ◌, ◌<ℤ◌}
+use Rattle.lists.proofs.Prelude.{◌∙◌, ap, sym, refl, ap₂, inl, inr, Bool, false, List, [], map, ℕ, zero, suc, ℤ, pos}
+use Rattle.lists.proofs.Prelude.{le_z, T, leb, le→leb, length, length-set, get_or-set_same, get_or-set_other, add-one, dec_lt, arith, le-leb, lt-leb}
 use Rattle.lists.proofs.Prelude.{tabulate, last_below, last_of, select, drop}
 use Rattle.lists.proofs.Tables.{map-tabulate, tabulate_ext}
 use Rattle.lists.proofs.Tests.{and_join}
@@ -25,7 +26,8 @@ use Rattle.runs.proofs.Ring.{Aged, Minima-aged, Aged-Selected, Aged-rise, Aged-c
 -- `kept` by the values of the text
 kept_text : (text : List ℤ) (a : Ring) (x : ℤ) → Aged text a → kept a x ≡ last_below (λ i. le_z (value_of text (place_at a i)) x) a.minima
 unfolding kept
-kept_text text a x g = last_below_ext (λ i. le_z (value_at a i) x) (λ i. le_z (value_of text (place_at a i)) x) a.minima (λ i h. ap (λ v. le_z v x) (g.value i h))
+kept_text text a x g = last_below_ext (λ i. le_z (value_at a i) x) (λ i. le_z (value_of text (place_at a i)) x) a.minima
+    (λ i h. ap (λ v. le_z v x) (g.value i h))
 
 -- those that stay are a front
 kept_places : (text : List ℤ) (a : Ring) (x : ℤ) → Aged text a
@@ -81,7 +83,8 @@ Minima-put text a x o g = record {
   values_length = length-set a.values (slot a (kept a x)) x ∙ g.values_length;
   places = put_places text a x o g;
   values =
-      tabulate_ext (kept a x + 1) (value_at (put (length text) a x)) (λ i. value_of (text ++ (x ∷ [])) (place_at (put (length text) a x) i)) (put_value text a x g)
+      tabulate_ext (kept a x + 1) (value_at (put (length text) a x)) (λ i. value_of (text ++ (x ∷ [])) (place_at (put (length text) a x) i))
+      (put_value text a x g)
       ∙ sym (map-tabulate (value_of (text ++ (x ∷ []))) (kept a x + 1) (place_at (put (length text) a x)))
       ∙ ap (map (value_of (text ++ (x ∷ [])))) (put_places text a x o g);
 }

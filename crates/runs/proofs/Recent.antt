@@ -1,8 +1,9 @@
 -- THE VALUES KEPT of a search over a text: what one value more does to them, what is kept for a
 -- place, that they pass check 8, and that a call finds the values of the text by them. So the rises
 -- over its hits are those in the text.
-use Rattle.lists.proofs.Prelude.{◌≡◌, ◌∙◌, ap, sym, refl, subst, ap₂, Bool, true, false, cond, ◌||◌, List, [], ◌∷◌, ◌++◌, map, append-nil, append_assoc}
-use Rattle.lists.proofs.Prelude.{Memᴰ, Memᴰ-append_right, ℕ, suc, ◌+◌, ◌-◌, ◌%◌, ◌≤◌, ◌<◌, ℤ, pos, eq_z, T, eqb, ltb, length, get_or, take, set, replicate}
+use Rattle.std.specs.Prelude.{◌≡◌, ◌||◌, ◌∷◌, ◌++◌, ◌+◌, ◌-◌, ◌%◌, ◌≤◌, ◌<◌}
+use Rattle.lists.proofs.Prelude.{◌∙◌, ap, sym, refl, subst, ap₂, Bool, true, false, cond, List, [], map, append-nil, append_assoc}
+use Rattle.lists.proofs.Prelude.{Memᴰ, Memᴰ-append_right, ℕ, suc, ℤ, pos, eq_z, T, eqb, ltb, length, get_or, take, set, replicate}
 use Rattle.lists.proofs.Prelude.{length-append, length-set, length-take-le, get_or-append, get_or-append-add, get_or-append_seam, get_or-take, get_or-set_same}
 use Rattle.lists.proofs.Prelude.{get_or-set_other, ext_get_or, get_or-replicate, length-replicate, dec_lt, arith, eq-eqb, lt-ltb, le-ltb, eqb-true, eqb-false}
 use Rattle.lists.proofs.Prelude.{leb, leb→le, lt→ltb, tabulate, last_below, all}

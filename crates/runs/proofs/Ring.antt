@@ -1,7 +1,8 @@
 -- The ring of open minima once the too old one is dropped. At most one is too old, the oldest, as
 -- all are among the last 256 and their places rise; so at most 255 are left, and the slot after
 -- theirs is none of theirs.
-use Rattle.lists.proofs.Prelude.{◌≡◌, ◌∙◌, ap, sym, refl, subst, Bool, true, false, ◌&&◌, List, ℕ, zero, suc, ◌+◌, ◌-◌, ◌≤◌, ◌<◌, ℤ, pos, le_z, T, leb, ltb}
+use Rattle.std.specs.Prelude.{◌≡◌, ◌&&◌, ◌+◌, ◌-◌, ◌≤◌, ◌<◌}
+use Rattle.lists.proofs.Prelude.{◌∙◌, ap, sym, refl, subst, Bool, true, false, List, ℕ, zero, suc, ℤ, pos, le_z, T, leb, ltb}
 use Rattle.lists.proofs.Prelude.{leb→le, le→leb, ltb→lt, lt→ltb, length, get_or, dec_lt, arith, lt-leb, tabulate, select}
 use Rattle.lists.proofs.Tables.{tabulate-cons, tabulate_ext}
 use Rattle.lists.proofs.Select.{select-select}
@@ -92,7 +93,8 @@ Aged-Selected text a g =
     (g.places ∙ select-select (is_listed text) (young (length text)) (tabulate (length text) (λ i. i)))
 
 -- their values never fall
-pub Aged-rise : (text : List ℤ) (a : Ring) → Aged text a → (i j : ℕ) → i < j → j < a.minima → T (le_z (value_of text (place_at a i)) (value_of text (place_at a j)))
+pub Aged-rise : (text : List ℤ) (a : Ring) → Aged text a → (i j : ℕ) → i < j → j < a.minima
+    → T (le_z (value_of text (place_at a i)) (value_of text (place_at a j)))
 Aged-rise text a g i j h k =
     let s = Aged-Selected text a g in
     let p = and_split (is_listed text (place_at a i)) (young (length text) (place_at a i)) (s.passes i (omega arith)) in

@@ -1,11 +1,12 @@
 -- THE RUN THEOREM (demand 3). Each call keeps the state that of a search over the text taken so
 -- far, and is seen as the reference sees it; one induction over the list of calls gives the rest.
-use Rattle.lists.proofs.Prelude.{◌≡◌, ◌∙◌, ap, sym, refl, subst, ap₂, Bool, true, false, cond, not, ◌&&◌, ◌||◌, none, some, List, [], ◌∷◌, ◌++◌, map}
+use Rattle.std.specs.Prelude.{◌≡◌, ◌&&◌, ◌||◌, ◌∷◌, ◌++◌, ◌+◌, ◌*◌, ◌≤◌, ◌<◌, ◌⊎◌}
+use Rattle.lists.proofs.Prelude.{◌∙◌, ap, sym, refl, subst, ap₂, Bool, true, false, cond, not, none, some, List, [], map}
 use Rattle.lists.proofs.Prelude.{append-nil}
-use Rattle.lists.proofs.Prelude.{append_assoc, flatten, ℕ, zero, suc, ◌+◌, ◌*◌, ◌≤◌, ◌<◌, ℤ, T, eqb, leb, ltb, eqb-suc-zero, length, length-append, take, drop}
+use Rattle.lists.proofs.Prelude.{append_assoc, flatten, ℕ, zero, suc, ℤ, T, eqb, leb, ltb, eqb-suc-zero, length, length-append, take, drop}
 use Rattle.lists.proofs.Prelude.{length-map, take_at, arith, ne_eqb, le-ltb, ltb-false, begins, select, tabulate, Memᴰ, Memᴰ-not-nil}
 use Rattle.lists.proofs.Prelude.{Memᴰ-cases_cons, inl}
-use Rattle.lists.proofs.Prelude.{inr, ◌⊎◌}
+use Rattle.lists.proofs.Prelude.{inr}
 use Rattle.lists.proofs.Tests.{true-T, T-true}
 use Rattle.lists.proofs.Parts.{map-append}
 use Rattle.answers.specs.declared.SearchState.{SearchState}

@@ -1,5 +1,6 @@
 -- A state of a search over a text: where it is, and the values that it keeps.
-use Rattle.lists.proofs.Prelude.{◌≡◌, ◌∙◌, ap, sym, subst, ap₂, List, [], ◌++◌, ℕ, ◌%◌, ◌≤◌, ◌<◌, ℤ, T, length, take, arith}
+use Rattle.std.specs.Prelude.{◌≡◌, ◌++◌, ◌%◌, ◌≤◌, ◌<◌}
+use Rattle.lists.proofs.Prelude.{◌∙◌, ap, sym, subst, ap₂, List, [], ℕ, ℤ, T, length, take, arith}
 use Rattle.lists.proofs.Tests.{and_join}
 use Rattle.answers.specs.declared.SearchState.{SearchState}
 use Rattle.answers.specs.Told.{new_search}

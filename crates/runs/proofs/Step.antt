@@ -1,7 +1,8 @@
 -- One step of the stream search is one step of the reference: what a state that represents a text
 -- does with one more value.
-use Rattle.lists.proofs.Prelude.{◌≡◌, ◌∙◌, ap, sym, refl, subst, ap₂, Bool, true, false, cond, ◌&&◌, ◌||◌, List, [], ◌∷◌, ◌++◌, map, ℕ, zero, suc, ◌+◌, ◌-◌}
-use Rattle.lists.proofs.Prelude.{◌≤◌, ◌<◌, ℤ, T, eqb, leb, ltb, le→leb, lt→ltb, length, length-append, drop-nil, le_refl, dec_lt, arith, eq-eqb, last_of}
+use Rattle.std.specs.Prelude.{◌≡◌, ◌&&◌, ◌||◌, ◌∷◌, ◌++◌, ◌+◌, ◌-◌, ◌≤◌, ◌<◌}
+use Rattle.lists.proofs.Prelude.{◌∙◌, ap, sym, refl, subst, ap₂, Bool, true, false, cond, List, [], map, ℕ, zero, suc}
+use Rattle.lists.proofs.Prelude.{ℤ, T, eqb, leb, ltb, le→leb, lt→ltb, length, length-append, drop-nil, le_refl, dec_lt, arith, eq-eqb, last_of}
 use Rattle.lists.proofs.Prelude.{tabulate}
 use Rattle.lists.proofs.Tests.{and_join, or_left, or_right, T-true}
 use Rattle.lists.proofs.Parts.{length-last_of, last_of-zero}

@@ -1,6 +1,7 @@
 -- The suffixes of a text with one more value: which of them have the tree of some head, and their
 -- distances, of which only the last one is new.
-use Rattle.lists.proofs.Prelude.{◌≡◌, ◌∙◌, ap, sym, refl, subst, ap₂, true, false, List, [], ◌∷◌, ◌++◌, Memᴰ-head, ℕ, zero, suc, ◌+◌, ◌-◌, ◌≤◌, ◌<◌, ℤ}
+use Rattle.std.specs.Prelude.{◌≡◌, ◌∷◌, ◌++◌, ◌+◌, ◌-◌, ◌≤◌, ◌<◌}
+use Rattle.lists.proofs.Prelude.{◌∙◌, ap, sym, refl, subst, ap₂, true, false, List, [], Memᴰ-head, ℕ, zero, suc, ℤ}
 use Rattle.lists.proofs.Prelude.{T, length, take, take-suc, take_all, take-append_seam, drop-append-le, arith, last_of, any}
 use Rattle.lists.proofs.Parts.{length-last_of, last_of-zero, last_of_snoc, length_snoc}
 use Rattle.lists.proofs.Tests.{clash}

@@ -1,6 +1,7 @@
 -- Laws of the values that the reference takes: they are a front of those it is handed, and the
 -- attempts of all values are at most two a value.
-use Rattle.lists.proofs.Prelude.{◌≡◌, ap, sym, refl, Bool, true, false, cond, List, [], ◌∷◌, ◌++◌, append-nil, append_assoc, ℕ, ◌+◌, ◌-◌, ◌*◌, ◌≤◌, ◌<◌, ℤ, T}
+use Rattle.std.specs.Prelude.{◌≡◌, ◌∷◌, ◌++◌, ◌+◌, ◌-◌, ◌*◌, ◌≤◌, ◌<◌}
+use Rattle.lists.proofs.Prelude.{ap, sym, refl, Bool, true, false, cond, List, [], append-nil, append_assoc, ℕ, ℤ, T}
 use Rattle.lists.proofs.Prelude.{leb, length, drop, arith}
 use Rattle.pattern_set.specs.PatternSet.{PatternSet, good_set}
 use Rattle.matching.specs.Matching.{last_hits}

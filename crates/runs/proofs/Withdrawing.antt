@@ -1,7 +1,8 @@
 -- THE WITHDRAWAL THEOREM: an accepted withdrawal leaves a set array of the other patterns, whose
 -- hits are the old ones without those of the pattern withdrawn, with the same rises over them; what
 -- the searches write follows.
-use Rattle.lists.proofs.Prelude.{◌≡◌, ◌∙◌, ap, sym, refl, subst, List, [], ◌∷◌, ◌++◌, map, flatten, ℕ, suc, ◌≤◌, ◌<◌, ℤ, T, length, take, drop}
+use Rattle.std.specs.Prelude.{◌≡◌, ◌∷◌, ◌++◌, ◌≤◌, ◌<◌}
+use Rattle.lists.proofs.Prelude.{◌∙◌, ap, sym, refl, subst, List, [], map, flatten, ℕ, suc, ℤ, T, length, take, drop}
 use Rattle.lists.proofs.Prelude.{take-length, take_all, arith, begins}
 use Rattle.lists.proofs.Parts.{length_snoc}
 use Rattle.lists.proofs.Same.{same_eq}

@@ -1,7 +1,8 @@
 -- The walk through the catalogue of a length: calls of the entry `next_list`, the first over zeros,
 -- each later one over the list that the one before wrote, until one answers "last". Document 02,
 -- 2.1: The walk must meet each possible list of that length once and then say "last".
-use Rattle.lists.specs.Prelude.{◌≡◌, List, [], ◌∷◌, ℕ, ◌≤◌, ◌<◌, length, take, replicate}
+use Rattle.std.specs.Prelude.{◌≡◌, ◌∷◌, ◌≤◌, ◌<◌}
+use Rattle.lists.specs.Prelude.{List, [], ℕ, length, take, replicate}
 use Rattle.catalogue.specs.Catalogue.{IsCatalogue}
 use Rattle.entries.specs.Entries.{told, after, next_entry}
 

@@ -1,7 +1,8 @@
 -- The three demands, as they follow from the entries' promises: each promise equals definitions of
 -- `entries`, and these are statements about them. docs/DEMANDS.md leads from each sentence of a
 -- demand to the field that states it. The proofs are in proofs/Demands.antt and proofs/Run.antt.
-use Rattle.lists.specs.Prelude.{◌≡◌, ◌⊎◌, ◌↔◌, false, cond, Option, none, some, List, [], ◌∷◌, ◌++◌, Memᴰ, map, ℕ, ◌+◌, ◌*◌, ◌≤◌, ◌<◌, T, ℤ, pos, length}
+use Rattle.std.specs.Prelude.{◌≡◌, ◌⊎◌, ◌↔◌, ◌∷◌, ◌++◌, ◌+◌, ◌*◌, ◌≤◌, ◌<◌}
+use Rattle.lists.specs.Prelude.{false, cond, Option, none, some, List, [], Memᴰ, map, ℕ, T, ℤ, pos, length}
 use Rattle.lists.specs.Prelude.{get_or, take, drop, tabulate, last_of, begins}
 use Rattle.answers.specs.declared.SearchState.{SearchState}
 use Rattle.answers.specs.Told.{new_search}

@@ -1,6 +1,7 @@
 -- The first hit of a text, through the entry's definition. Document 02, 2.5: It must not read on
 -- after it.
-use Rattle.lists.specs.Prelude.{◌≡◌, List, ℕ, suc, ◌≤◌, ℤ, length, take}
+use Rattle.std.specs.Prelude.{◌≡◌, ◌≤◌}
+use Rattle.lists.specs.Prelude.{List, ℕ, suc, ℤ, length, take}
 use Rattle.entries.specs.Entries.{told, first_entry}
 
 -- THE FIRST HIT THEOREM: the answer depends on nothing behind the hit's last place p. Another text

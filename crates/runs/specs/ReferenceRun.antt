@@ -2,7 +2,8 @@
 -- from the text alone and by trees of windows. It shares no rule with the search. The automaton's
 -- words stand in refusal 7 and nowhere else. Document 01: A run of ladder searches; Run book;
 -- Trials. Document 02, 2.2 and 2.7.
-use Rattle.lists.specs.Prelude.{Bool, cond, not, ◌&&◌, ◌||◌, Option, none, some, List, [], ◌∷◌, ◌++◌, map, ℕ, suc, pred, ◌+◌, ◌-◌, ◌*◌, ◌%◌, eqb, leb, ltb}
+use Rattle.std.specs.Prelude.{◌&&◌, ◌||◌, ◌∷◌, ◌++◌, ◌+◌, ◌-◌, ◌*◌, ◌%◌}
+use Rattle.lists.specs.Prelude.{Bool, cond, not, Option, none, some, List, [], map, ℕ, suc, pred, eqb, leb, ltb}
 use Rattle.lists.specs.Prelude.{ℤ, pos, le_z}
 use Rattle.lists.specs.Prelude.{length, get_or, drop, tabulate, last_below, last_of, all, select, begins}
 use Rattle.gaps.specs.Gaps.{is_gap, holds_gap}

@@ -2,7 +2,8 @@
 -- the shape just added must give back every used word of the set before, and, if shapes remain, the
 -- list from a search over a whole recording afterwards must be the old one without that shape's
 -- hits, higher numbers one lower.
-use Rattle.lists.specs.Prelude.{◌≡◌, List, [], ◌++◌, map, ℕ, ◌<◌, ℤ, T, length, take, drop}
+use Rattle.std.specs.Prelude.{◌≡◌, ◌++◌, ◌<◌}
+use Rattle.lists.specs.Prelude.{List, [], map, ℕ, ℤ, T, length, take, drop}
 use Rattle.answers.specs.Told.{new_search}
 use Rattle.pattern_set.specs.PatternSet.{may_search, set_words, IsSet, patterns_of, without}
 use Rattle.matching.specs.Matching.{hits, hit_words, candidates}

@@ -1,5 +1,6 @@
 -- An array that begins with the words of an automaton has all its records.
-use Rattle.lists.proofs.Prelude.{◌≡◌, ◌∙◌, ap, true, List, ℕ, ◌+◌, ◌-◌, ◌*◌, ◌≤◌, ◌<◌, length, take, length-append, take-append-le, arith, begins}
+use Rattle.std.specs.Prelude.{◌≡◌, ◌+◌, ◌-◌, ◌*◌, ◌≤◌, ◌<◌}
+use Rattle.lists.proofs.Prelude.{◌∙◌, ap, true, List, ℕ, length, take, length-append, take-append-le, arith, begins}
 use Rattle.lists.proofs.Tests.{T-true}
 use Rattle.lists.proofs.Same.{begins_iff}
 use Rattle.automaton_model.specs.Automaton.{nodes, automaton_words}

@@ -1,5 +1,6 @@
 -- The conditions of a search over a set that may be searched: the automaton decides.
-use Rattle.lists.proofs.Prelude.{◌≡◌, ◌∙◌, refl, true, false, not, List, [], ◌∷◌, ℕ, T, begins}
+use Rattle.std.specs.Prelude.{◌≡◌, ◌∷◌}
+use Rattle.lists.proofs.Prelude.{◌∙◌, refl, true, false, not, List, [], ℕ, T, begins}
 use Rattle.answers.specs.declared.Refusal.{Refusal}
 use Rattle.answers.specs.Told.{number}
 use Rattle.answers.proofs.Refusals.{number_positive}

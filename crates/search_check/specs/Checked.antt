@@ -1,5 +1,6 @@
 -- What is known of a set and an automaton once they are checked.
-use Rattle.lists.specs.Prelude.{◌≡◌, List, ℕ}
+use Rattle.std.specs.Prelude.{◌≡◌}
+use Rattle.lists.specs.Prelude.{List, ℕ}
 use Rattle.answers.specs.Told.{number}
 use Rattle.entries.specs.Entries.{first_met, search_conditions}
 use Rattle.automaton_lookup.specs.Made.{Whole}

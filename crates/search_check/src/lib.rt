@@ -1,12 +1,15 @@
 // Checking the set and the automaton that a search is lent. Refusals 1 5 15 7.
-ghost use Rattle.lists.specs.Prelude.{◌≡◌, T, length};
+#![tactic(auto)]
+
+ghost use Rattle.std.specs.Prelude.{◌≡◌};
+ghost use Rattle.lists.specs.Prelude.{T, length};
 ghost use Rattle.pattern_set.specs.PatternSet.{IsSet, patterns_of, may_search};
 ghost use Rattle.search_check.specs.Checked.{IsChecked};
 
 use answers::{Refusal, SetSize};
 
 // The patterns of the set and the nodes of its automaton.
-#[derive(Drop)]
+#[derive(Clone, Copy)]
 pub enum SearchSize {
     Holds(usize, usize),
     Refused(Refusal),

@@ -1,6 +1,7 @@
 -- ACCEPTED STATES: what is known of one, and the check's tests, in their order, which decide
 -- whether a state is good.
-use Rattle.lists.proofs.Prelude.{◌≡◌, ◌∙◌, ap, sym, refl, Bool, true, false, ◌&&◌, ◌||◌, ◌≤◌, ◌<◌, T, eqb, leb, ltb, leb→le, ltb→lt, length, le-leb, lt-leb}
+use Rattle.std.specs.Prelude.{◌≡◌, ◌&&◌, ◌||◌, ◌≤◌, ◌<◌}
+use Rattle.lists.proofs.Prelude.{◌∙◌, ap, sym, refl, Bool, true, false, T, eqb, leb, ltb, leb→le, ltb→lt, length, le-leb, lt-leb}
 use Rattle.lists.proofs.Prelude.{lt-ltb, le-ltb, eq-eqb, ne_eqb, dec_lt, arith}
 use Rattle.lists.proofs.Tests.{T-true, true-T, and_split, and-true, and-false}
 use Rattle.pattern_set.specs.PatternSet.{PatternSet, good_set}

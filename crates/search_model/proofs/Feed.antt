@@ -1,6 +1,7 @@
 -- THE RULE OF FULL AND ENDED: taking values goes on while values are left and so many words are
 -- free as the rule asks for. It holds of a state of any kind.
-use Rattle.lists.proofs.Prelude.{◌≡◌, ◌∙◌, refl, sym, ap, subst, Bool, true, false, ◌⊎◌, inl, inr, List, [], ◌∷◌, ℕ, suc, ◌+◌, ◌-◌, ◌*◌, ◌≤◌, ◌<◌, ℤ, ltb}
+use Rattle.std.specs.Prelude.{◌≡◌, ◌⊎◌, ◌∷◌, ◌+◌, ◌-◌, ◌*◌, ◌≤◌, ◌<◌}
+use Rattle.lists.proofs.Prelude.{◌∙◌, refl, sym, ap, subst, Bool, true, false, inl, inr, List, [], ℕ, suc, ℤ, ltb}
 use Rattle.lists.proofs.Prelude.{ltb-true, length, length-append, arith}
 use Rattle.pattern_set.specs.PatternSet.{PatternSet}
 use Rattle.gaps.specs.Gaps.{is_gap}

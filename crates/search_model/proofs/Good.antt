@@ -1,6 +1,7 @@
 -- What follows from the check of the open minima: they are at most 256, as their places rise among
 -- 256 numbers, and each place is before the next one.
-use Rattle.lists.proofs.Prelude.{◌≡◌, refl, Bool, true, false, ℕ, suc, ◌-◌, ◌≤◌, ◌<◌, T, dec_lt, arith}
+use Rattle.std.specs.Prelude.{◌≡◌, ◌-◌, ◌≤◌, ◌<◌}
+use Rattle.lists.proofs.Prelude.{refl, Bool, true, false, ℕ, suc, T, dec_lt, arith}
 use Rattle.lists.proofs.Tests.{T-true, true-T}
 use Rattle.lists.proofs.Rising.{rising_all, rising_count}
 use Rattle.search_model.specs.Ring.{Ring, place_at, good_ring}

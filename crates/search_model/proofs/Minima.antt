@@ -1,5 +1,6 @@
 -- What the check of the open minima says of each of them, for any ring.
-use Rattle.lists.proofs.Prelude.{◌≡◌, sym, refl, Bool, ◌&&◌, ◌||◌, ℕ, zero, suc, pred, ◌+◌, ◌≤◌, ◌<◌, le_z, T, eqb, leb, ltb, leb→le, le→leb, eqb→eq, ltb→lt}
+use Rattle.std.specs.Prelude.{◌≡◌, ◌&&◌, ◌||◌, ◌+◌, ◌≤◌, ◌<◌}
+use Rattle.lists.proofs.Prelude.{sym, refl, Bool, ℕ, zero, suc, pred, le_z, T, eqb, leb, ltb, leb→le, le→leb, eqb→eq, ltb→lt}
 use Rattle.lists.proofs.Prelude.{lt→ltb, eqb_refl, arith, ne_eqb, tabulate, all}
 use Rattle.lists.proofs.Tests.{and_split, and_join}
 use Rattle.lists.proofs.Members.{all_below, below_all}

@@ -1,7 +1,8 @@
 -- A push keeps the open minima good, whatever state they came from. Without the oldest where it is
 -- too old, all are among the last 255, so they are at most 255 and the slot after theirs is none of
 -- theirs; those kept are a front of them, whose newest is not above the value pushed.
-use Rattle.lists.proofs.Prelude.{◌≡◌, ◌∙◌, ap, sym, refl, subst, Bool, true, false, ℕ, zero, suc, ◌+◌, ◌-◌, ◌≤◌, ◌<◌, ℤ, pos, le_z, T, leb, ltb, le→leb, ltb→lt}
+use Rattle.std.specs.Prelude.{◌≡◌, ◌+◌, ◌-◌, ◌≤◌, ◌<◌}
+use Rattle.lists.proofs.Prelude.{◌∙◌, ap, sym, refl, subst, Bool, true, false, ℕ, zero, suc, ℤ, pos, le_z, T, leb, ltb, le→leb, ltb→lt}
 use Rattle.lists.proofs.Prelude.{lt→ltb, length, length-set, get_or, get_or-set_same, get_or-set_other, dec_lt, arith}
 use Rattle.lists.proofs.Tests.{and_split, and_join, T-true}
 use Rattle.lists.proofs.LastBelow.{last_below_passes}

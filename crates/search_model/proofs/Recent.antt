@@ -1,6 +1,7 @@
 -- The last 256 values that a search has taken: what is kept once values are taken, their parts one
 -- after the other, and that 256 values leave nothing of what was kept before.
-use Rattle.lists.proofs.Prelude.{◌≡◌, ◌∙◌, ap, sym, refl, List, [], ◌∷◌, ◌++◌, ℕ, zero, suc, ◌+◌, ◌-◌, ◌%◌, ◌≤◌, ◌<◌, ℤ, pos, length, get_or, set, take, drop}
+use Rattle.std.specs.Prelude.{◌≡◌, ◌∷◌, ◌++◌, ◌+◌, ◌-◌, ◌%◌, ◌≤◌, ◌<◌}
+use Rattle.lists.proofs.Prelude.{◌∙◌, ap, sym, refl, List, [], ℕ, zero, suc, ℤ, pos, length, get_or, set, take, drop}
 use Rattle.lists.proofs.Prelude.{length-set, length-drop, length-take-le, take-append-drop, get_or-set_same, get_or-set_other, ext_get_or, get_or-eq_default}
 use Rattle.lists.proofs.Prelude.{dec_lt, arith}
 use Rattle.search_model.specs.Recent.{keeping}

@@ -1,6 +1,7 @@
 -- The ring of open minima: its slots, the ring without its oldest, and a push as what it puts on
 -- top.
-use Rattle.lists.proofs.Prelude.{◌≡◌, ◌∙◌, ap, refl, Bool, true, false, cond, ℕ, suc, ◌+◌, ◌-◌, ◌%◌, ◌≤◌, ◌<◌, ℤ, le_z, set, mod-add-mod, arith}
+use Rattle.std.specs.Prelude.{◌≡◌, ◌+◌, ◌-◌, ◌%◌, ◌≤◌, ◌<◌}
+use Rattle.lists.proofs.Prelude.{◌∙◌, ap, refl, Bool, true, false, cond, ℕ, suc, ℤ, le_z, set, mod-add-mod, arith}
 use Rattle.lists.proofs.LastBelow.{last_below-le}
 use Rattle.search_model.specs.Ring.{Ring, slot, value_at, is_old, aged, kept, pushed}
 

@@ -1,6 +1,7 @@
 -- The last 256 values that a search has taken, each in the slot of its place modulo 256: what they
 -- are, when they are accepted, and the value that a call finds at a place. Document 02, 2.7.
-use Rattle.lists.specs.Prelude.{Bool, cond, ◌&&◌, ◌||◌, List, [], ◌∷◌, ℕ, suc, ◌-◌, ◌%◌, ltb, ℤ, pos, eq_z, get_or, set, tabulate, all}
+use Rattle.std.specs.Prelude.{◌&&◌, ◌||◌, ◌∷◌, ◌-◌, ◌%◌}
+use Rattle.lists.specs.Prelude.{Bool, cond, List, [], ℕ, suc, ltb, ℤ, pos, eq_z, get_or, set, tabulate, all}
 use Rattle.search_model.specs.Ring.{Ring, place_at, value_at}
 
 -- the value kept for place p

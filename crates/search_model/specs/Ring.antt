@@ -1,6 +1,7 @@
 -- The ring of open minima: what it means, when it is accepted, and how a value is pushed. Document
 -- 01: A search state; refusal 8. Document 02, 2.2.
-use Rattle.lists.specs.Prelude.{Bool, cond, ◌&&◌, ◌||◌, List, ℕ, zero, suc, pred, ◌+◌, ◌-◌, ◌%◌, eqb, leb, ltb, ℤ, pos, le_z, get_or, set, tabulate, last_below}
+use Rattle.std.specs.Prelude.{◌&&◌, ◌||◌, ◌+◌, ◌-◌, ◌%◌}
+use Rattle.lists.specs.Prelude.{Bool, cond, List, ℕ, zero, suc, pred, eqb, leb, ltb, ℤ, pos, le_z, get_or, set, tabulate, last_below}
 use Rattle.lists.specs.Prelude.{all}
 
 -- how many minima are open, the slot of the oldest, and the places and values that the 256 slots

@@ -1,6 +1,7 @@
 -- The state of a stream search: when it is accepted, one step and one call from any accepted state.
 -- Document 01: A search state; refusal 8; Step; A ladder search. Document 02, 2.2 and 2.7.
-use Rattle.lists.specs.Prelude.{Bool, cond, ◌&&◌, ◌||◌, List, [], ◌∷◌, ◌++◌, map, ℕ, suc, ◌+◌, ◌-◌, ◌*◌, ◌%◌, eqb, leb, ltb, ℤ, length, take}
+use Rattle.std.specs.Prelude.{◌&&◌, ◌||◌, ◌∷◌, ◌++◌, ◌+◌, ◌-◌, ◌*◌, ◌%◌}
+use Rattle.lists.specs.Prelude.{Bool, cond, List, [], map, ℕ, suc, eqb, leb, ltb, ℤ, length, take}
 use Rattle.gaps.specs.Gaps.{is_gap}
 use Rattle.answers.specs.declared.SearchState.{SearchState}
 use Rattle.pattern_set.specs.PatternSet.{PatternSet}

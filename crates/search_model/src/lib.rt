@@ -1,2 +1,4 @@
 // This crate holds definitions and laws only; specs/ and proofs/ have them.
+#![tactic(auto)]
+
 pub const VERSION: u32 = 1;

@@ -1,5 +1,6 @@
 -- What is known of a set array once it is checked for a search.
-use Rattle.lists.specs.Prelude.{◌≡◌, List, flatten, ℕ, T, length}
+use Rattle.std.specs.Prelude.{◌≡◌}
+use Rattle.lists.specs.Prelude.{List, flatten, ℕ, T, length}
 use Rattle.answers.specs.declared.SetSize.{SetSize}
 use Rattle.answers.specs.Told.{number}
 use Rattle.pattern_set.specs.PatternSet.{IsSet, patterns_of, may_search}

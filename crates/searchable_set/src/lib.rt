@@ -1,6 +1,9 @@
 // Checking the set that an entry is to search, or whose automaton it is to build. Document 02, 2.6;
 // refusals 1 5 15.
-ghost use Rattle.lists.specs.Prelude.{◌≡◌, length};
+#![tactic(auto)]
+
+ghost use Rattle.std.specs.Prelude.{◌≡◌};
+ghost use Rattle.lists.specs.Prelude.{length};
 ghost use Rattle.pattern_set.specs.PatternSet.{holds_one_value, patterns_of, IsSet};
 ghost use Rattle.searchable_set.specs.Searchable.{IsSearchable};
 

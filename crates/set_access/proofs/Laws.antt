@@ -1,6 +1,7 @@
 -- What is known of a set array that is good: it begins with the words of its patterns, so that each
 -- pattern lies between two of the offsets, and each pattern is good.
-use Rattle.lists.proofs.Prelude.{◌≡◌, ◌∙◌, ap, sym, ap₂, List, [], ◌++◌, flatten, ℕ, suc, ◌+◌, ◌-◌, ◌≤◌, ◌<◌, T, length, get_or, take, drop, length-append}
+use Rattle.std.specs.Prelude.{◌≡◌, ◌++◌, ◌+◌, ◌-◌, ◌≤◌, ◌<◌}
+use Rattle.lists.proofs.Prelude.{◌∙◌, ap, sym, ap₂, List, [], flatten, ℕ, suc, T, length, get_or, take, drop, length-append}
 use Rattle.lists.proofs.Prelude.{get_or-eq_default, get_or-take, get_or-drop, add-one, dec_lt, arith}
 use Rattle.lists.proofs.Members.{get_or-mem, all-mem}
 use Rattle.lists.proofs.Rows.{length-flatten-suc, length-flatten-take}

@@ -1,5 +1,8 @@
 // The patterns of a set array that is known to be good, read where they lie. Document 01: Set.
-ghost use Rattle.lists.specs.Prelude.{◌≡◌, [], flatten, ◌+◌, ◌≤◌, ◌<◌, length, get_or, take};
+#![tactic(auto)]
+
+ghost use Rattle.std.specs.Prelude.{◌≡◌, ◌+◌, ◌≤◌, ◌<◌};
+ghost use Rattle.lists.specs.Prelude.{[], flatten, length, get_or, take};
 ghost use Rattle.pattern_set.specs.PatternSet.{patterns_of, IsSet};
 
 // The number of patterns.

@@ -1,7 +1,8 @@
 -- Adding in place: the words of a set, moved up by one word from the first distance on, with the
 -- new offset, the new counts and the new distances, are the words of the set with one pattern more;
 -- what lies behind them is as it was.
-use Rattle.lists.proofs.Prelude.{◌≡◌, ◌∙◌, ap, sym, refl, ap₂, List, [], ◌∷◌, ◌++◌, append_assoc, flatten, ℕ, ◌+◌, ◌≤◌, length, get_or, take, drop, set}
+use Rattle.std.specs.Prelude.{◌≡◌, ◌∷◌, ◌++◌, ◌+◌, ◌≤◌}
+use Rattle.lists.proofs.Prelude.{◌∙◌, ap, sym, refl, ap₂, List, [], append_assoc, flatten, ℕ, length, get_or, take, drop, set}
 use Rattle.lists.proofs.Prelude.{length-append, take-suc, append_snoc, take_at, drop-drop, set_at, drop_at, drop-append-add, take-append-add, arith}
 use Rattle.lists.proofs.Rows.{flatten_snoc}
 use Rattle.pattern_set.specs.PatternSet.{PatternSet, offsets, set_words}
@@ -78,7 +79,8 @@ module _ (ps : PatternSet) (rest ds : List ℕ) (h : 1 + length ds ≤ length re
       ∙ ap₂ (λ (l r : List ℕ). (k + 1) ∷ v ∷ (l ++ r)) o (flatten_snoc ps ds)
       ∙ ap (λ (l : List ℕ). (k + 1) ∷ v ∷ l) (sym (append_assoc (offsets 0 ps ++ (v ∷ [])) (flatten ps) ds))
 
-  pub appended_words : appended k n ds (set_words ps ++ rest) ≡ set_words (ps ++ (ds ∷ [])) ++ drop (length (set_words (ps ++ (ds ∷ [])))) (set_words ps ++ rest)
+  pub appended_words : appended k n ds (set_words ps ++ rest) ≡ set_words (ps ++ (ds ∷ [])) ++ drop (length (set_words (ps ++ (ds ∷ []))))
+      (set_words ps ++ rest)
   unfolding appended
   appended_words =
       let m = length ds in

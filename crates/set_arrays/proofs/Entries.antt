@@ -1,5 +1,6 @@
 -- What the entries tell, and what they leave in the array, by the tests that they made.
-use Rattle.lists.proofs.Prelude.{◌≡◌, ◌∙◌, ap, sym, refl, subst, ap₂, Bool, true, false, ◌||◌, List, [], ◌∷◌, ◌++◌, flatten, ℕ, suc, ◌+◌, ◌≤◌, ◌<◌, ℤ, T}
+use Rattle.std.specs.Prelude.{◌≡◌, ◌||◌, ◌∷◌, ◌++◌, ◌+◌, ◌≤◌, ◌<◌}
+use Rattle.lists.proofs.Prelude.{◌∙◌, ap, sym, refl, subst, ap₂, Bool, true, false, List, [], flatten, ℕ, suc, ℤ, T}
 use Rattle.lists.proofs.Prelude.{leb, ltb, begins, length, get_or, drop, length-append, arith, eq-eqb, ne_eqb, lt-ltb, le-ltb, leb-false, ltb-false}
 use Rattle.lists.proofs.Tests.{none_left, none_right}
 use Rattle.lists.proofs.Same.{begins_iff}

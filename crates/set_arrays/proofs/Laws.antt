@@ -1,7 +1,8 @@
 -- The ways through the code, as laws of the definitions: what each answer and each array is by what
 -- was tested and stored on the way.
-use Rattle.lists.proofs.Prelude.{T, lt→ltb, le→leb, ◌≡◌, ◌∙◌, ap, sym, refl, Bool, true, false, ◌&&◌, List, [], ◌∷◌, ◌++◌, append-nil, flatten, ℕ, ◌+◌, ◌-◌}
-use Rattle.lists.proofs.Prelude.{◌≤◌, ◌<◌, leb, ltb, leb→le, ltb→lt, length, get_or, take, drop, set, length-drop, drop_of_length-le, take_all, drop-drop, arith}
+use Rattle.std.specs.Prelude.{◌≡◌, ◌&&◌, ◌∷◌, ◌++◌, ◌+◌, ◌-◌, ◌≤◌, ◌<◌}
+use Rattle.lists.proofs.Prelude.{T, lt→ltb, le→leb, ◌∙◌, ap, sym, refl, Bool, true, false, List, [], append-nil, flatten, ℕ}
+use Rattle.lists.proofs.Prelude.{leb, ltb, leb→le, ltb→lt, length, get_or, take, drop, set, length-drop, drop_of_length-le, take_all, drop-drop, arith}
 use Rattle.lists.proofs.Prelude.{le-leb, lt-leb, add-one}
 use Rattle.lists.proofs.Tests.{and_join, clash, T-true, true-T, and_split, and-false}
 use Rattle.lists.proofs.Moving.{moved}

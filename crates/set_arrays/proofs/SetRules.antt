@@ -2,8 +2,9 @@
 -- rules. One way, the lists between the offsets, put end to end, are the array's distances, and
 -- their lengths add up to the offsets; the other way, the offsets of a good set are the lengths of
 -- its first patterns.
-use Rattle.lists.proofs.Prelude.{◌≡◌, ◌∙◌, ap, sym, refl, subst, ap₂, Bool, true, false, List, [], ◌∷◌, ◌++◌, append-nil, append_assoc, flatten, ℕ, zero}
-use Rattle.lists.proofs.Prelude.{suc, ◌+◌, ◌-◌, ◌≤◌, ◌<◌, T, length, get_or, take, drop, length-append, length-drop, take-append-drop}
+use Rattle.std.specs.Prelude.{◌≡◌, ◌∷◌, ◌++◌, ◌+◌, ◌-◌, ◌≤◌, ◌<◌}
+use Rattle.lists.proofs.Prelude.{◌∙◌, ap, sym, refl, subst, ap₂, Bool, true, false, List, [], append-nil, append_assoc, flatten, ℕ, zero}
+use Rattle.lists.proofs.Prelude.{suc, T, length, get_or, take, drop, length-append, length-drop, take-append-drop}
 use Rattle.lists.proofs.Prelude.{length-take-le, get_or-take, get_or-drop, drop-drop, ext_get_or, take-add, take-length, add-one, arith, tabulate, begins}
 use Rattle.lists.proofs.Same.{begins_iff}
 use Rattle.lists.proofs.Tables.{length-tabulate, take-tabulate}

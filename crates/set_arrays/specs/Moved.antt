@@ -1,5 +1,6 @@
 -- A set array as a pattern is added to it in place.
-use Rattle.lists.specs.Prelude.{List, ◌++◌, ℕ, ◌+◌, length, take, drop, set}
+use Rattle.std.specs.Prelude.{◌++◌, ◌+◌}
+use Rattle.lists.specs.Prelude.{List, ℕ, length, take, drop, set}
 
 -- the n words from `at` on stand one word further up; word `at` is as it was
 unfoldable pub moved_up : ℕ → ℕ → List ℕ → List ℕ

@@ -1,5 +1,6 @@
 -- The set rules as they are tested on an array's words. Document 01: Set; refusal 5.
-use Rattle.lists.specs.Prelude.{Bool, ◌&&◌, List, ℕ, ◌+◌, leb, ltb, length, get_or, tabulate, all}
+use Rattle.std.specs.Prelude.{◌&&◌, ◌+◌}
+use Rattle.lists.specs.Prelude.{Bool, List, ℕ, leb, ltb, length, get_or, tabulate, all}
 use Rattle.realization.specs.Realization.{realizable}
 use Rattle.pattern_set.specs.PatternSet.{pattern_in}
 

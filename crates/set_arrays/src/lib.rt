@@ -1,6 +1,9 @@
 // The entries on sets of patterns that lie in lent arrays: write the empty set, check an array, add
 // a pattern.
-ghost use Rattle.lists.specs.Prelude.{◌≡◌, ◌||◌, ◌+◌, ◌≤◌, leb, ltb};
+#![tactic(auto)]
+
+ghost use Rattle.std.specs.Prelude.{◌≡◌, ◌||◌, ◌+◌, ◌≤◌};
+ghost use Rattle.lists.specs.Prelude.{leb, ltb};
 ghost use Rattle.answers.specs.Told.{told_written, told_size};
 ghost use Rattle.entries.specs.Entries.{told, after, empty_set_entry, check_entry, add_entry};
 

@@ -1,5 +1,6 @@
 // A new pattern behind the ones that a set has.
-ghost use Rattle.lists.specs.Prelude.{◌≡◌, ◌+◌, ◌≤◌, ◌<◌, length};
+ghost use Rattle.std.specs.Prelude.{◌≡◌, ◌+◌, ◌≤◌, ◌<◌};
+ghost use Rattle.lists.specs.Prelude.{length};
 ghost use Rattle.cartesian.specs.Cartesian.{distances};
 ghost use Rattle.set_arrays.specs.Moved.{moved_up, with_room, appended};
 

@@ -1,5 +1,6 @@
 // The set rules, tested on an array's words whatever they are.
-ghost use Rattle.lists.specs.Prelude.{◌≡◌, true, ◌+◌, ◌≤◌, length, get_or};
+ghost use Rattle.std.specs.Prelude.{◌≡◌, ◌+◌, ◌≤◌};
+ghost use Rattle.lists.specs.Prelude.{true, length, get_or};
 ghost use Rattle.pattern_set.specs.PatternSet.{is_set};
 ghost use Rattle.set_arrays.specs.Rules.{sizes_fit, is_next_offset, offsets_rise, lists_realizable};
 

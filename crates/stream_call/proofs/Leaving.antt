@@ -1,6 +1,7 @@
 -- WHAT AN ACCEPTED CALL LEAVES: it enters at the position of the state, and the state that it makes
 -- keeps the values taken.
-use Rattle.lists.proofs.Prelude.{◌≡◌, ◌∙◌, ap, sym, subst, ap₂, true, List, ℕ, ◌+◌, ◌-◌, ◌%◌, ℤ, take, arith}
+use Rattle.std.specs.Prelude.{◌≡◌, ◌+◌, ◌-◌, ◌%◌}
+use Rattle.lists.proofs.Prelude.{◌∙◌, ap, sym, subst, ap₂, true, List, ℕ, ℤ, take, arith}
 use Rattle.answers.specs.declared.SearchState.{SearchState}
 use Rattle.pattern_set.specs.PatternSet.{PatternSet}
 use Rattle.search_model.specs.Ring.{good_ring}

@@ -1,8 +1,9 @@
 -- THE CALL, value by value: what is done so far and then the call from the present state are the
 -- whole call. A step adds its hits, its attempts and its value; where no value is left or too few
 -- words are free, nothing is left to do.
-use Rattle.lists.proofs.Prelude.{◌≡◌, ◌∙◌, ap, sym, refl, subst, ap₂, true, cond, List, [], ◌∷◌, ◌++◌, map, append-nil, append_assoc, ℕ, suc, ◌+◌, ◌-◌, ◌*◌}
-use Rattle.lists.proofs.Prelude.{◌/◌, ◌≤◌, ◌<◌, ℤ, pos, T, leb, length, get_or, take, drop, length-append, length-drop, drop_of_length-le, length-map}
+use Rattle.std.specs.Prelude.{◌≡◌, ◌∷◌, ◌++◌, ◌+◌, ◌-◌, ◌*◌, ◌/◌, ◌≤◌, ◌<◌}
+use Rattle.lists.proofs.Prelude.{◌∙◌, ap, sym, refl, subst, ap₂, true, cond, List, [], map, append-nil, append_assoc, ℕ, suc}
+use Rattle.lists.proofs.Prelude.{ℤ, pos, T, leb, length, get_or, take, drop, length-append, length-drop, drop_of_length-le, length-map}
 use Rattle.lists.proofs.Prelude.{drop-cons, drop-drop, arith, le-leb, lt-leb, lt-ltb, le-ltb}
 use Rattle.lists.proofs.Parts.{map-append, paste}
 use Rattle.pattern_set.specs.PatternSet.{PatternSet, good_set}

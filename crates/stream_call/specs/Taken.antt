@@ -1,6 +1,7 @@
 -- What a step and the values of a call leave in the arrays that a search keeps apart, and what they
 -- answer.
-use Rattle.lists.specs.Prelude.{◌≡◌, cond, List, ◌++◌, map, ℕ, ◌+◌, ◌*◌, ◌≤◌, ◌<◌, leb, ℤ, length, take, drop}
+use Rattle.std.specs.Prelude.{◌≡◌, ◌++◌, ◌+◌, ◌*◌, ◌≤◌, ◌<◌}
+use Rattle.lists.specs.Prelude.{cond, List, map, ℕ, leb, ℤ, length, take, drop}
 use Rattle.answers.specs.declared.Counts.{Counts}
 use Rattle.answers.specs.declared.SearchState.{SearchState}
 use Rattle.pattern_set.specs.PatternSet.{PatternSet}

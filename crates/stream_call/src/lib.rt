@@ -2,7 +2,10 @@
 // them. Document 01: Step; A ladder search. Document 02, 2.2 and 2.7. The words of the set lie in
 // `set`, those of its automaton in `automaton`; k is the number of patterns and count that of
 // nodes.
-ghost use Rattle.lists.specs.Prelude.{◌≡◌, true, ◌+◌, ◌*◌, ◌≤◌, ◌<◌, leb, pos, length, get_or};
+#![tactic(auto)]
+
+ghost use Rattle.std.specs.Prelude.{◌≡◌, ◌+◌, ◌*◌, ◌≤◌, ◌<◌};
+ghost use Rattle.lists.specs.Prelude.{true, leb, pos, length, get_or};
 ghost use Rattle.pattern_set.specs.PatternSet.{patterns_of};
 ghost use Rattle.automaton_model.specs.Automaton.{head_of};
 ghost use Rattle.search_model.specs.Recent.{found_at};
@@ -17,7 +20,7 @@ use answers::Counts;
 
 // What a step leaves beside the arrays: the counters of the oldest open minimum and behind the
 // newest, the node, the attempts and the hits written.
-#[derive(Drop)]
+#[derive(Clone, Copy)]
 struct Moved {
     first: usize,
     next: usize,
@@ -28,7 +31,7 @@ struct Moved {
 
 // What the values of a call leave beside the arrays: the counters of the oldest open minimum and
 // behind the newest, the node, and what the call counts.
-#[derive(Drop)]
+#[derive(Clone, Copy)]
 pub struct Taken {
     pub first: usize,
     pub next: usize,
@@ -37,7 +40,7 @@ pub struct Taken {
 }
 
 // What an accepted call leaves beside the arrays: the numbers of the state, and what it counts.
-#[derive(Drop)]
+#[derive(Clone, Copy)]
 pub struct Left {
     pub taken: u32,
     pub node: u32,

@@ -1,6 +1,7 @@
 -- THE ANSWER of a stream search, for each way through the entry: the first refusal that is met, and
 -- else what the call does.
-use Rattle.lists.proofs.Prelude.{◌≡◌, ◌∙◌, ap, sym, refl, Bool, true, false, cond, ◌||◌, List, ◌++◌, ℕ, ◌+◌, ◌*◌, ◌≤◌, ◌<◌, ℤ, leb, ltb, length}
+use Rattle.std.specs.Prelude.{◌≡◌, ◌||◌, ◌++◌, ◌+◌, ◌*◌, ◌≤◌, ◌<◌}
+use Rattle.lists.proofs.Prelude.{◌∙◌, ap, sym, refl, Bool, true, false, cond, List, ℕ, ℤ, leb, ltb, length}
 use Rattle.lists.proofs.Prelude.{drop, length-map, lt-ltb, le-ltb}
 use Rattle.answers.specs.declared.Counts.{Counts as Counted}
 use Rattle.answers.specs.declared.Refusal.{Refusal}

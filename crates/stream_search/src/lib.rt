@@ -1,6 +1,9 @@
 // The entry of the stream search, and the check of a state that a caller hands in. Document 01: A
 // ladder search; refusals 1 5 15 7 8 9 10. Document 02, 2.2, 2.6 and 2.7.
-ghost use Rattle.lists.specs.Prelude.{◌≡◌, cond, ◌||◌, [], ◌*◌, ◌≤◌, eqb, leb, ltb, length};
+#![tactic(auto)]
+
+ghost use Rattle.std.specs.Prelude.{◌≡◌, ◌||◌, ◌*◌, ◌≤◌};
+ghost use Rattle.lists.specs.Prelude.{cond, [], eqb, leb, ltb, length};
 ghost use Rattle.answers.specs.Told.{number, told_streamed};
 ghost use Rattle.pattern_set.specs.PatternSet.{patterns_of};
 ghost use Rattle.entries.specs.Entries.{first_met, search_conditions, stream_entry, stream_rises, stream_state, told, after};
@@ -106,7 +109,7 @@ fn answer_of(counts: Counts, n: usize) -> StreamAnswer
 }
 
 // The numbers of the state that a call hands back, whose arrays are lent, and the answer.
-#[derive(Drop)]
+#[derive(Clone, Copy)]
 pub struct Searched {
     taken: u32,
     node: u32,

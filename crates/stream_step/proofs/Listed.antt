@@ -2,8 +2,9 @@
 -- and then those listed at the failure of that one: heads where none ends add nothing, and none
 -- ends at the root. Each pattern ends at one head only, and the heads of a chain get shorter, so no
 -- more are listed than there are.
-use Rattle.lists.proofs.Prelude.{◌≡◌, ◌∙◌, ap, sym, refl, subst, Bool, true, false, cond, List, [], ◌∷◌, ◌++◌, map, append-nil, flatten, ℕ, zero, suc, ◌+◌, ◌≤◌}
-use Rattle.lists.proofs.Prelude.{◌<◌, T, leb, leb→le, le→leb, length, get_or, drop, length-append, length-drop, length-take-le, get_or-take, get_or-drop, le_refl}
+use Rattle.std.specs.Prelude.{◌≡◌, ◌∷◌, ◌++◌, ◌+◌, ◌≤◌, ◌<◌}
+use Rattle.lists.proofs.Prelude.{◌∙◌, ap, sym, refl, subst, Bool, true, false, cond, List, [], map, append-nil, flatten, ℕ, zero, suc}
+use Rattle.lists.proofs.Prelude.{T, leb, leb→le, le→leb, length, get_or, drop, length-append, length-drop, length-take-le, get_or-take, get_or-drop, le_refl}
 use Rattle.lists.proofs.Prelude.{arith, tabulate, select, same}
 use Rattle.lists.proofs.Same.{same_eq}
 use Rattle.lists.proofs.Tests.{positive}
@@ -95,7 +96,8 @@ first_end_within ps (suc n) (x ∷ h) l =
         (record { shorter = le_refl (length (x ∷ h)); lists = refl })
 
 -- the same of nodes: the output link
-pub output_node : (ps : PatternSet) → T (good_set ps) → 0 < length ps → (n o : ℕ) → n < length (nodes ps) → o ≡ node_of ps (first_end ps (chain ps (head_of ps n)))
+pub output_node : (ps : PatternSet) → T (good_set ps) → 0 < length ps → (n o : ℕ) → n < length (nodes ps) → o
+    ≡ node_of ps (first_end ps (chain ps (head_of ps n)))
     → (o < length (nodes ps)) × (length (head_of ps o) ≤ length (head_of ps n)) × (listed ps (head_of ps o) ≡ listed ps (head_of ps n))
 output_node ps g z n o h e =
     let r = first_end_within ps (length (head_of ps n)) (head_of ps n) (le_refl (length (head_of ps n))) in
@@ -105,7 +107,8 @@ output_node ps g z n o h e =
 -- and the failure link of a node that is not the root
 pub failure_node : (ps : PatternSet) → T (good_set ps) → 0 < length ps → (n f : ℕ) → n < length (nodes ps) → (n ≡ 0 → ⊥)
     → f ≡ node_of ps (failure ps (head_of ps n))
-    → (f < length (nodes ps)) × (length (head_of ps f) < length (head_of ps n)) × (listed ps (head_of ps n) ≡ ending_at ps (head_of ps n) ++ listed ps (head_of ps f))
+    → (f < length (nodes ps)) × (length (head_of ps f) < length (head_of ps n))
+    × (listed ps (head_of ps n) ≡ ending_at ps (head_of ps n) ++ listed ps (head_of ps f))
 failure_node ps g z n f h k e =
     let l = node_longer ps g z n (positive n k) h in
     let p = failure_head ps g n f h e in

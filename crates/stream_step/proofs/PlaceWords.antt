@@ -1,5 +1,6 @@
 -- The words of the hits at one place.
-use Rattle.lists.proofs.Prelude.{◌≡◌, ◌∙◌, ap, sym, refl, ap₂, List, [], ◌∷◌, ◌++◌, map, append_assoc, ℕ, suc, ◌+◌, ◌*◌, ◌≤◌, ◌<◌, length, get_or, take, drop}
+use Rattle.std.specs.Prelude.{◌≡◌, ◌∷◌, ◌++◌, ◌+◌, ◌*◌, ◌≤◌, ◌<◌}
+use Rattle.lists.proofs.Prelude.{◌∙◌, ap, sym, refl, ap₂, List, [], map, append_assoc, ℕ, suc, length, get_or, take, drop}
 use Rattle.lists.proofs.Prelude.{set, length-map, length-take-le, drop-cons, take-suc, append_snoc, set_at, arith}
 use Rattle.lists.proofs.Parts.{length_snoc, map-append}
 use Rattle.matching.specs.Matching.{hit_words}

@@ -1,7 +1,8 @@
 -- WRITING THE HITS: the words of the patterns that end at a node follow those written before, and
 -- what is left to list is what the next output link lists.
-use Rattle.lists.proofs.Prelude.{◌≡◌, ◌∙◌, ap, sym, refl, ap₂, List, [], ◌++◌, append-nil, append_assoc, ℕ, ◌+◌, ◌-◌, ◌*◌, ◌≤◌, ◌<◌, T, length, get_or, take}
-use Rattle.lists.proofs.Prelude.{drop, set, length-append, length-drop, length-set, take-length, arith, all}
+use Rattle.std.specs.Prelude.{◌≡◌, ◌++◌, ◌+◌, ◌-◌, ◌*◌, ◌≤◌, ◌<◌}
+use Rattle.lists.proofs.Prelude.{◌∙◌, ap, sym, refl, ap₂, List, [], append-nil, append_assoc, ℕ, T, length, get_or, take}
+use Rattle.lists.proofs.Prelude.{drop, set, length-append, length-drop, length-set, take-length, arith}
 use Rattle.lists.proofs.Parts.{paste}
 use Rattle.pattern_set.proofs.Good.{good_set_parts}
 use Rattle.pattern_set.specs.PatternSet.{PatternSet, good_set}
@@ -81,7 +82,8 @@ pub record Written (ps : PatternSet) (p : ℕ) (d js : List ℕ) (at n : ℕ) (h
   pub room : 2 * n + 2 * length (listed ps (head_of ps at)) ≤ length hits
 
 module _ (ps : PatternSet) (g : T (good_set ps)) (z : 0 < length ps) (p : ℕ) (d : List ℕ) where
-  pub writing_start : (n o : ℕ) → n < length (nodes ps) → o ≡ node_of ps (first_end ps (chain ps (head_of ps n))) → 2 * length (listed ps (head_of ps n)) ≤ length d
+  pub writing_start : (n o : ℕ) → n < length (nodes ps) → o ≡ node_of ps (first_end ps (chain ps (head_of ps n)))
+      → 2 * length (listed ps (head_of ps n)) ≤ length d
       → Written ps p d (listed ps (head_of ps n)) o 0 d
   unfolding hit_words
   writing_start n o h e r =

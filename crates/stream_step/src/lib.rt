@@ -2,7 +2,10 @@
 // from a node, and the hits at the node reached. The words of the set lie in
 // `set`, which is only there for the contracts, k is the number of its patterns and count the
 // number of nodes.
-ghost use Rattle.lists.specs.Prelude.{◌≡◌, ◌++◌, ◌*◌, ◌≤◌, ◌<◌, length, drop};
+#![tactic(auto)]
+
+ghost use Rattle.std.specs.Prelude.{◌≡◌, ◌++◌, ◌*◌, ◌≤◌, ◌<◌};
+ghost use Rattle.lists.specs.Prelude.{length, drop};
 ghost use Rattle.pattern_set.specs.PatternSet.{patterns_of};
 ghost use Rattle.automaton_model.specs.Automaton.{head_of, ending_at, listed};
 ghost use Rattle.automaton_lookup.specs.Made.{Whole};

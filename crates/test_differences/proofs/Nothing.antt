@@ -1,5 +1,6 @@
 -- Where nothing is told to differ, all is as expected, and the other way round.
-use Rattle.lists.proofs.Prelude.{◌≡◌, refl, Bool, true, false, cond, ◌&&◌, List, ℕ, eqb, ℤ, eq_z, begins}
+use Rattle.std.specs.Prelude.{◌≡◌, ◌&&◌}
+use Rattle.lists.proofs.Prelude.{refl, Bool, true, false, cond, List, ℕ, eqb, ℤ, eq_z, begins}
 use Rattle.test_differences.specs.declared.difference.Part.{Part}
 use Rattle.test_differences.specs.declared.difference.Difference.{Difference}
 use Rattle.test_differences.specs.Difference.{is_nothing, first_of, compared, compared_value, compared_words}

@@ -1,5 +1,6 @@
 -- What is told of a case: the first thing that differs from what is expected.
-use Rattle.lists.specs.Prelude.{Bool, true, false, cond, List, ℕ, ◌+◌, ◌-◌, eqb, ℤ, pos, negsuc, eq_z, length, get_or, drop, all, begins}
+use Rattle.std.specs.Prelude.{◌+◌, ◌-◌}
+use Rattle.lists.specs.Prelude.{Bool, true, false, cond, List, ℕ, eqb, ℤ, pos, negsuc, eq_z, length, get_or, drop, all, begins}
 use Rattle.test_inputs.specs.Arrays.{alike, held_until, before}
 use Rattle.test_differences.specs.declared.difference.Part.{Part}
 use Rattle.test_differences.specs.declared.difference.Difference.{Difference}

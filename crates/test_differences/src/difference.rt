@@ -1,13 +1,13 @@
 // What came of a case, held against what was expected: the first thing that differs.
-ghost use Rattle.std.specs.Prelude.{◌<ℤ◌};
-ghost use Rattle.lists.specs.Prelude.{◌≡◌, pos};
+ghost use Rattle.std.specs.Prelude.{◌<ℤ◌, ◌≡◌};
+ghost use Rattle.lists.specs.Prelude.{pos};
 ghost use Rattle.test_differences.specs.Difference.{is_nothing, first_of, compared, bit, lifted, compared_value, differ_at, compared_words};
 ghost use Rattle.test_differences.specs.Difference.{compared_held, compared_front};
 
 use test_inputs::arrays;
 
 // The things that are compared.
-#[derive(Drop)]
+#[derive(Clone, Copy)]
 pub enum Part {
     // of an answer
     Refusal,
@@ -53,7 +53,7 @@ pub enum Part {
 
 // Nothing differs, or what does, what was expected and what came. Of arrays and texts the place is
 // known, too; a value of an array stands there lifted.
-#[derive(Drop)]
+#[derive(Clone, Copy)]
 pub enum Difference {
     Nothing,
     Differs {

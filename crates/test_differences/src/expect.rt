@@ -1,6 +1,6 @@
 // Answers of the finder's entries, held against what is expected. A refusal is expected by its
 // number, and 0 is none.
-ghost use Rattle.lists.specs.Prelude.{◌≡◌};
+ghost use Rattle.std.specs.Prelude.{◌≡◌};
 ghost use Rattle.answers.specs.Told.{number as refusalNumber, told_streamed};
 ghost use Rattle.test_differences.specs.Expect.{compared_refusal, compared_sizes, compared_written, compared_next, compared_set, compared_built};
 ghost use Rattle.test_differences.specs.Expect.{compared_filtered, compared_counts, compared_stream, found_first, compared_hit, compared_first};

@@ -1,7 +1,9 @@
 // The filter search over a set and a text, held against the plain search of the crate test_plain:
 // the list of hits, the rises over them, their number, the candidates, and what is behind the hits
 // and the rises. No function asks anything of its caller.
-ghost use Rattle.lists.specs.Prelude.{◌≤◌};
+#![tactic(auto)]
+
+ghost use Rattle.std.specs.Prelude.{◌≤◌};
 
 use answers::Filtered;
 use test_differences::difference::{Difference, Part};
@@ -9,14 +11,14 @@ use test_differences::{difference, expect};
 use test_inputs::arrays;
 
 // The words of a hit array that a search used or was lent, and what differs.
-#[derive(Drop)]
+#[derive(Clone, Copy)]
 pub struct Compared {
     pub words: usize,
     pub difference: Difference,
 }
 
 // What the plain search says of a set and a text: the words of its list, and the candidates.
-#[derive(Drop)]
+#[derive(Clone, Copy)]
 struct Plain {
     words: usize,
     candidates: usize,

@@ -1,5 +1,6 @@
 -- Laws of arrays compared: the ways through the loops, and where two lists agree to the end.
-use Rattle.lists.proofs.Prelude.{◌≡◌, ◌∙◌, ap, ap₂, sym, refl, Bool, true, false, cond, ◌&&◌, List, [], ◌∷◌, ℕ, suc, min, ◌+◌, ◌≤◌, ◌<◌, eqb, ℤ, length, get_or}
+use Rattle.std.specs.Prelude.{◌≡◌, ◌&&◌, ◌∷◌, ◌+◌, ◌≤◌, ◌<◌}
+use Rattle.lists.proofs.Prelude.{◌∙◌, ap, ap₂, sym, refl, Bool, true, false, cond, List, [], ℕ, suc, min, eqb, ℤ, length, get_or}
 use Rattle.lists.proofs.Prelude.{drop, take-nil, drop-cons, drop_of_length-le, length-drop, eq-eqb, ne_eqb, eqb-suc-suc, eqb-zero-suc, add-one, add-zero}
 use Rattle.lists.proofs.Prelude.{dec_lt, arith, all, same, begins, eq_z}
 use Rattle.lists.proofs.Tests.{eqb_comm}

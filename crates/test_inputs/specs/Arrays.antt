@@ -1,5 +1,6 @@
 -- Arrays compared: how far they agree.
-use Rattle.lists.specs.Prelude.{Bool, cond, List, [], ◌∷◌, ℕ, suc, min, ◌+◌, eqb, length, drop}
+use Rattle.std.specs.Prelude.{◌∷◌, ◌+◌}
+use Rattle.lists.specs.Prelude.{Bool, cond, List, [], ℕ, suc, min, eqb, length, drop}
 
 -- how many elements two lists begin with alike, by a test of two elements
 unfoldable pub alike : {A : Type 0} → (A → A → Bool) → List A → List A → ℕ

@@ -1,5 +1,6 @@
 // Reading and comparing arrays.
-ghost use Rattle.lists.specs.Prelude.{◌≡◌, min, ◌≤◌, ◌<◌, eqb, eq_z, length, get_or};
+ghost use Rattle.std.specs.Prelude.{◌≡◌, ◌≤◌, ◌<◌};
+ghost use Rattle.lists.specs.Prelude.{min, eqb, eq_z, length, get_or};
 ghost use Rattle.test_inputs.specs.Arrays.{alike as alikeBy, held_until};
 
 // What arrays hold before an entry writes to them.

@@ -1,4 +1,6 @@
 // What test programs are made of: texts from a seed, and reading and comparing arrays. No function
 // asks anything of its caller.
+#![tactic(auto)]
+
 pub mod arrays;
 pub mod texts;

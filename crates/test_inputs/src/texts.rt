@@ -1,5 +1,6 @@
 // Texts made from a seed, and gaps put into them.
-ghost use Rattle.lists.specs.Prelude.{◌≡◌, ◌≤◌, ◌<◌, length};
+ghost use Rattle.std.specs.Prelude.{◌≡◌, ◌≤◌, ◌<◌};
+ghost use Rattle.lists.specs.Prelude.{length};
 
 use super::arrays;
 

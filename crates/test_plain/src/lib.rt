@@ -1,7 +1,10 @@
 // The answers of the searches computed by the definitions of documents 01 and 02, place by place
 // and window by window. What is read behind the end of an array is 0. A window is given by the
 // place where it begins and the place behind its end.
-ghost use Rattle.lists.specs.Prelude.{◌≡◌, true, ◌+◌, ◌≤◌, ◌<◌, length};
+#![tactic(auto)]
+
+ghost use Rattle.std.specs.Prelude.{◌≡◌, ◌+◌, ◌≤◌, ◌<◌};
+ghost use Rattle.lists.specs.Prelude.{true, length};
 
 use test_inputs::arrays;
 

@@ -1,7 +1,10 @@
 // The rises over hits by document 02's words, 2.7, and second arrays held against them. Here values
 // and rises are lifted, so that none is below zero: all numbers are natural ones. What is read
 // behind the end of an array is 0. No function asks anything of its caller.
-ghost use Rattle.lists.specs.Prelude.{◌≡◌, true, ◌+◌, ◌*◌, ◌≤◌, ◌<◌, length};
+#![tactic(auto)]
+
+ghost use Rattle.std.specs.Prelude.{◌≡◌, ◌+◌, ◌*◌, ◌≤◌, ◌<◌};
+ghost use Rattle.lists.specs.Prelude.{true, length};
 ghost use Rattle.test_differences.specs.Difference.{is_nothing};
 
 use test_differences::difference;

@@ -1,6 +1,9 @@
 // Sets for test programs, made by the entries of the crate finder. No function asks anything of its
 // caller.
-ghost use Rattle.lists.specs.Prelude.{◌≡◌, ◌≤◌, ◌<◌, length};
+#![tactic(auto)]
+
+ghost use Rattle.std.specs.Prelude.{◌≡◌, ◌≤◌, ◌<◌};
+ghost use Rattle.lists.specs.Prelude.{length};
 
 use test_inputs::{arrays, texts};
 

@@ -1,5 +1,6 @@
 -- Of two states nothing is told to differ exactly if they are the same.
-use Rattle.lists.proofs.Prelude.{◌≡◌, ◌∙◌, sym, refl, Bool, true, false, cond, List, ℕ, ◌<◌, leb, ℤ, pos, eq_z, length, get_or, take, take_all}
+use Rattle.std.specs.Prelude.{◌≡◌, ◌<◌}
+use Rattle.lists.proofs.Prelude.{◌∙◌, sym, refl, Bool, true, false, cond, List, ℕ, leb, ℤ, pos, eq_z, length, get_or, take, take_all}
 use Rattle.lists.proofs.Prelude.{eqb-true, eq-eqb, leb-true, leb-false, le-leb, le_of_eq, arith}
 use Rattle.lists.proofs.Tests.{T-true, true-T, and_split, clash}
 use Rattle.lists.proofs.Same.{true-same, same-true}

@@ -1,6 +1,9 @@
 // States of a search: compared, changed, and held against what they must be after a front of a
 // text.
-ghost use Rattle.lists.specs.Prelude.{◌≡◌, true, ◌<◌};
+#![tactic(auto)]
+
+ghost use Rattle.std.specs.Prelude.{◌≡◌, ◌<◌};
+ghost use Rattle.lists.specs.Prelude.{true};
 ghost use Rattle.test_differences.specs.Difference.{is_nothing, first_of, compared_words};
 ghost use Rattle.test_states.specs.States.{compared_numbers, compared_slot_values, compared_states};
 
@@ -10,7 +13,7 @@ use test_differences::difference::{Difference, Part};
 use test_inputs::arrays;
 
 // The open minima that were looked for, and what differs in their slots.
-#[derive(Drop)]
+#[derive(Clone, Copy)]
 struct Open {
     count: usize,
     difference: Difference,
@@ -315,7 +318,8 @@ fn keep_gaps(recent: &mut [i32; 256], from: u32, to: u32) {
 // The state behind one more value or several, all of them gaps: at the root, with no open minimum,
 // every slot of the ring as it was, and the gaps kept.
 pub fn cleared(s: SearchState, taken: u32) -> SearchState
-    ensures { (result.node ≡ 0) × (result.taken ≡ taken) × (result.minima ≡ 0) × (result.first ≡ s.first) × (result.places ≡ s.places) × (result.values ≡ s.values) }
+    ensures { (result.node ≡ 0) × (result.taken ≡ taken) × (result.minima ≡ 0) × (result.first ≡ s.first)
+        × (result.places ≡ s.places) × (result.values ≡ s.values) }
 {
     let places = s.places;
     let values = s.values;

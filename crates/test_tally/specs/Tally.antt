@@ -1,5 +1,6 @@
 -- Cases counted, by numbers of 64 bits.
-use Rattle.lists.specs.Prelude.{cond, ◌+◌, ◌%◌, ◌^◌}
+use Rattle.std.specs.Prelude.{◌+◌, ◌%◌, ◌^◌}
+use Rattle.lists.specs.Prelude.{cond}
 use Rattle.test_differences.specs.declared.difference.Difference.{Difference}
 use Rattle.test_differences.specs.Difference.{is_nothing}
 use Rattle.test_tally.specs.declared.Tally.{Tally}

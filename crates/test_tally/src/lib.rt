@@ -1,12 +1,15 @@
 // Counting the cases run, and those of them that failed; the first of these are printed, with what
 // was expected and what came.
-ghost use Rattle.lists.specs.Prelude.{◌≡◌, ◌≤◌, length};
+#![tactic(auto)]
+
+ghost use Rattle.std.specs.Prelude.{◌≡◌, ◌≤◌};
+ghost use Rattle.lists.specs.Prelude.{length};
 ghost use Rattle.test_tally.specs.Tally.{no_cases, counted, joined};
 
 use test_differences::difference;
 use test_differences::difference::{Difference, Part};
 
-#[derive(Drop)]
+#[derive(Clone, Copy)]
 pub struct Tally {
     pub cases: u64,
     pub failed: u64,
@@ -53,8 +56,8 @@ fn count(t: Tally, d: Difference) -> Tally
 }
 
 // Prints bytes.
-fn print(text: &[u8]) {
-    io::write_all(1, text);
+fn print(rt: &HostRuntime, text: &[u8]) {
+    printing::write_all(rt, text);
 }
 
 // The place behind so many semicolons of a text.
@@ -91,10 +94,10 @@ fn next_mark(text: &[u8], from: usize) -> usize
 }
 
 // Prints one of some names, which semicolons part.
-fn print_one(names: &[u8], n: usize) {
+fn print_one(rt: &HostRuntime, names: &[u8], n: usize) {
     let from = behind(names, n);
     let end = next_mark(names, from);
-    print(&names[from..end]);
+    print(rt, &names[from..end]);
 }
 
 // The number of a part: its place among the names below, of answers, then of states, of arrays, of
@@ -138,69 +141,78 @@ fn number(part: Part) -> usize {
 }
 
 // Prints the name of a part of an answer.
-fn print_of_answer(n: usize) {
+fn print_of_answer(rt: &HostRuntime, n: usize) {
     print_one(
+        rt,
         b"refusal;words written;code;patterns;distances;nodes;words of the automaton;hits;candidates;attempts;values taken;whether the values ended",
         n,
     );
 }
 
 // Prints the name of a number of a state.
-fn print_of_state(n: usize) {
+fn print_of_state(rt: &HostRuntime, n: usize) {
     print_one(
+        rt,
         b"node of the state;depth of the state's node;last distance of the state's node;open minima of the state;first slot of the state",
         n,
     );
 }
 
 // Prints the name of a part of an array, a text or an input; of arrays the place follows.
-fn print_of_array(n: usize) {
+fn print_of_array(rt: &HostRuntime, n: usize) {
     print_one(
+        rt,
         b"place of open minimum ;word ;value ;byte ;whether the input is bad;values of the text;bytes printed",
         n,
     );
 }
 
 // Prints the name of what a test itself counts.
-fn print_of_test(n: usize) {
+fn print_of_test(rt: &HostRuntime, n: usize) {
     print_one(
+        rt,
         b"nodes, at least;words needed, up to the first that is not;whether the array has room for the list",
         n,
     );
 }
 
 // Prints the name of a part of a catalogue.
-fn print_of_catalogue(n: usize) {
-    print_one(b"whether the list is the last one;lists of the length", n);
+fn print_of_catalogue(rt: &HostRuntime, n: usize) {
+    print_one(
+        rt,
+        b"whether the list is the last one;lists of the length",
+        n,
+    );
 }
 
 // Prints the name of a part of a first hit.
-fn print_of_hit(n: usize) {
+fn print_of_hit(rt: &HostRuntime, n: usize) {
     print_one(
+        rt,
         b"whether there is a hit;last place;pattern number;values read",
         n,
     );
 }
 
 // Prints the name of a part.
-fn print_part(part: Part) {
+fn print_part(rt: &HostRuntime, part: Part) {
     let n = number(part);
     if n < 12 {
-        return print_of_answer(n);
+        return print_of_answer(rt, n);
     }
     if n < 17 {
-        return print_of_state(n - 12);
+        return print_of_state(rt, n - 12);
     }
     if n < 24 {
-        return print_of_array(n - 17);
+        return print_of_array(rt, n - 17);
     }
     if n < 27 {
-        return print_of_test(n - 24);
+        return print_of_test(rt, n - 24);
     }
     if n < 29 {
-        return print_of_catalogue(n - 27);
+        return print_of_catalogue(rt, n - 27);
     }
-    print_of_hit(n - 29)
+    print_of_hit(rt, n - 29)
 }
 
 // Whether a part is printed with its place.
@@ -215,48 +227,48 @@ fn has_place(part: Part) -> bool {
 }
 
 // Prints a value that was lifted.
-fn print_value(x: u64) {
+fn print_value(rt: &HostRuntime, x: u64) {
     if x < difference::LIFT {
-        print(b"-");
-        io::print_decimal(1, difference::LIFT - x);
+        print(rt, b"-");
+        printing::print_decimal(rt, difference::LIFT - x);
         return;
     }
-    io::print_decimal(1, x - difference::LIFT);
+    printing::print_decimal(rt, x - difference::LIFT);
 }
 
 // Prints a number of a part.
-fn print_number(part: Part, x: u64) {
+fn print_number(rt: &HostRuntime, part: Part, x: u64) {
     match part {
-        Part::Value => print_value(x),
+        Part::Value => print_value(rt, x),
         _ => {
-            io::print_decimal(1, x);
+            printing::print_decimal(rt, x);
         },
     }
 }
 
 // Prints what differs, what was expected, and what came.
-fn print_parts(part: Part, place: usize, expected: u64, got: u64) {
-    print_part(part);
+fn print_parts(rt: &HostRuntime, part: Part, place: usize, expected: u64, got: u64) {
+    print_part(rt, part);
     if has_place(part) {
-        io::print_decimal(1, place as u64);
+        printing::print_decimal(rt, place as u64);
     }
-    print(b": expected ");
-    print_number(part, expected);
-    print(b", got ");
-    print_number(part, got);
-    print(b"\n");
+    print(rt, b": expected ");
+    print_number(rt, part, expected);
+    print(rt, b", got ");
+    print_number(rt, part, got);
+    print(rt, b"\n");
 }
 
 // Prints a difference.
-fn print_difference(d: Difference) {
+fn print_difference(rt: &HostRuntime, d: Difference) {
     match d {
-        Difference::Nothing => print(b"nothing\n"),
+        Difference::Nothing => print(rt, b"nothing\n"),
         Difference::Differs {
             part,
             place,
             expected,
             got,
-        } => print_parts(part, place, expected, got),
+        } => print_parts(rt, part, place, expected, got),
     }
 }
 
@@ -267,60 +279,60 @@ fn is_printed(t: Tally, d: Difference) -> bool {
 
 // One more case of a group, with its number; it failed where something differs, and is printed
 // then.
-pub fn numbered(t: Tally, group: &[u8], number: usize, d: Difference) -> Tally
+pub fn numbered(rt: &HostRuntime, t: Tally, group: &[u8], number: usize, d: Difference) -> Tally
     ensures { result ≡ counted t d }
 {
     if is_printed(t, d) {
-        print(group);
-        print(b"case ");
-        io::print_decimal(1, number as u64);
-        print(b": ");
-        print_difference(d);
+        print(rt, group);
+        print(rt, b"case ");
+        printing::print_decimal(rt, number as u64);
+        print(rt, b": ");
+        print_difference(rt, d);
     }
     count(t, d)
 }
 
 // One more case, with the line of the input that it begins on.
-pub fn lined(t: Tally, line: usize, d: Difference) -> Tally
+pub fn lined(rt: &HostRuntime, t: Tally, line: usize, d: Difference) -> Tally
     ensures { result ≡ counted t d }
 {
     if is_printed(t, d) {
-        print(b"case on line ");
-        io::print_decimal(1, line as u64);
-        print(b": ");
-        print_difference(d);
+        print(rt, b"case on line ");
+        printing::print_decimal(rt, line as u64);
+        print(rt, b": ");
+        print_difference(rt, d);
     }
     count(t, d)
 }
 
 // One more case, with its name.
-pub fn named(t: Tally, name: &[u8], d: Difference) -> Tally
+pub fn named(rt: &HostRuntime, t: Tally, name: &[u8], d: Difference) -> Tally
     ensures { result ≡ counted t d }
 {
     if is_printed(t, d) {
-        print(name);
-        print(b": ");
-        print_difference(d);
+        print(rt, name);
+        print(rt, b": ");
+        print_difference(rt, d);
     }
     count(t, d)
 }
 
 // Prints how many cases of a group there are, under the name of what they are, and how many of them
 // failed; returns how many failed.
-pub fn report_as(group: &[u8], t: Tally, cases: &[u8]) -> u64
+pub fn report_as(rt: &HostRuntime, group: &[u8], t: Tally, cases: &[u8]) -> u64
     ensures { result ≡ t.failed }
 {
-    print(group);
-    io::print_decimal(1, t.cases);
-    print(cases);
-    io::print_decimal(1, t.failed);
-    print(b" failed\n");
+    print(rt, group);
+    printing::print_decimal(rt, t.cases);
+    print(rt, cases);
+    printing::print_decimal(rt, t.failed);
+    print(rt, b" failed\n");
     t.failed
 }
 
 // Prints how many cases of a group there are, and how many of them failed; returns how many failed.
-pub fn report(group: &[u8], t: Tally) -> u64
+pub fn report(rt: &HostRuntime, group: &[u8], t: Tally) -> u64
     ensures { result ≡ t.failed }
 {
-    report_as(group, t, b" cases, ")
+    report_as(rt, group, t, b" cases, ")
 }

@@ -1,5 +1,6 @@
 -- What the entry tells, and what it leaves in the array, by the tests that it made.
-use Rattle.lists.proofs.Prelude.{◌≡◌, ◌∙◌, ap, refl, ap₂, false, List, ◌++◌, flatten, ℕ, ◌≤◌, ◌<◌, length, get_or, length-append, arith, le-leb}
+use Rattle.std.specs.Prelude.{◌≡◌, ◌++◌, ◌≤◌, ◌<◌}
+use Rattle.lists.proofs.Prelude.{◌∙◌, ap, refl, ap₂, false, List, flatten, ℕ, length, get_or, length-append, arith, le-leb}
 use Rattle.lists.proofs.Same.{begins_iff}
 use Rattle.answers.specs.declared.Refusal.{Refusal}
 use Rattle.pattern_set.specs.PatternSet.{set_words, is_set, IsSet, patterns_of, without}

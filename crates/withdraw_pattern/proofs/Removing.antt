@@ -1,6 +1,7 @@
 -- Withdrawing in place: the array is written from the front on, and what is written is always the
 -- front of the words of the smaller set, so that the rest can still be read as it was.
-use Rattle.lists.proofs.Prelude.{◌≡◌, ◌∙◌, ap, sym, refl, ap₂, List, [], ◌∷◌, ◌++◌, map, append_assoc, flatten, ℕ, suc, ◌+◌, ◌-◌, length, take, drop, set}
+use Rattle.std.specs.Prelude.{◌≡◌, ◌∷◌, ◌++◌, ◌+◌, ◌-◌}
+use Rattle.lists.proofs.Prelude.{◌∙◌, ap, sym, refl, ap₂, List, [], map, append_assoc, flatten, ℕ, suc, length, take, drop, set}
 use Rattle.lists.proofs.Prelude.{length-append, append_snoc, take_at, drop-drop, drop_at, drop-append-add, drop-append_seam, arith}
 use Rattle.lists.proofs.Rows.{flatten-append}
 use Rattle.pattern_set.specs.PatternSet.{PatternSet, offsets, set_words}

@@ -1,6 +1,7 @@
 -- Words replaced one after the other, from the front on: after some turns the array is the new one
 -- up to a place and the old one from there on, so that what lies behind can still be read.
-use Rattle.lists.proofs.Prelude.{◌≡◌, ◌∙◌, ap, sym, List, ◌++◌, append_assoc, ℕ, ◌+◌, ◌-◌, ◌≤◌, ◌<◌, length, get_or, take, drop, set, length-append, length-drop}
+use Rattle.std.specs.Prelude.{◌≡◌, ◌++◌, ◌+◌, ◌-◌, ◌≤◌, ◌<◌}
+use Rattle.lists.proofs.Prelude.{◌∙◌, ap, sym, List, append_assoc, ℕ, length, get_or, take, drop, set, length-append, length-drop}
 use Rattle.lists.proofs.Prelude.{take-append-drop, length-take-le, take_at, get_or-append-add, get_or-append, drop-append-add, drop-drop, arith}
 use Rattle.lists.proofs.Parts.{fill_more, put_at, write_behind}
 use Rattle.withdraw_pattern.specs.Replaced.{replaced}

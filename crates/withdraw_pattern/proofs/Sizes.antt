@@ -1,6 +1,7 @@
 -- The numbers that a withdrawal goes by: where in a good array the pattern lies and where the set
 -- ends, and what follows for the array's length.
-use Rattle.lists.proofs.Prelude.{◌≡◌, List, [], flatten, ℕ, suc, ◌+◌, ◌≤◌, ◌<◌, length, get_or, take, take-length, ap, ◌∙◌, arith}
+use Rattle.std.specs.Prelude.{◌≡◌, ◌+◌, ◌≤◌, ◌<◌}
+use Rattle.lists.proofs.Prelude.{List, [], flatten, ℕ, suc, length, get_or, take, take-length, ap, ◌∙◌, arith}
 use Rattle.pattern_set.specs.PatternSet.{PatternSet, IsSet, patterns_of}
 use Rattle.set_access.proofs.Laws.{count_le, total_le, set_fits, offset_next, offset_le, pattern_le}
 

@@ -1,6 +1,7 @@
 -- THE LAW OF WITHDRAWING: what the steps leave in a good array, one after the other, up to the
 -- entry's result.
-use Rattle.lists.proofs.Prelude.{◌≡◌, ◌∙◌, ap, subst, List, [], ◌∷◌, ◌++◌, map, flatten, ℕ, suc, ◌+◌, ◌-◌, ◌≤◌, ◌<◌, length, get_or, take, drop, set, replicate}
+use Rattle.std.specs.Prelude.{◌≡◌, ◌∷◌, ◌++◌, ◌+◌, ◌-◌, ◌≤◌, ◌<◌}
+use Rattle.lists.proofs.Prelude.{◌∙◌, ap, subst, List, [], map, flatten, ℕ, suc, length, get_or, take, drop, set, replicate}
 use Rattle.lists.proofs.Prelude.{length-append, length-drop, length-take-le, length-replicate, get_or-set_other, take-take, arith}
 use Rattle.lists.proofs.Rows.{flatten-append, length-flatten-take}
 use Rattle.pattern_set.specs.PatternSet.{PatternSet, set_words, patterns_of, without}

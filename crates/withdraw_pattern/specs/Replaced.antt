@@ -1,5 +1,6 @@
 -- Words of an array replaced by others.
-use Rattle.lists.specs.Prelude.{List, ◌++◌, ℕ, ◌+◌, length, take, drop}
+use Rattle.std.specs.Prelude.{◌++◌, ◌+◌}
+use Rattle.lists.specs.Prelude.{List, ℕ, length, take, drop}
 
 -- the array with the words `new` from place `at` on
 unfoldable pub replaced : ℕ → List ℕ → List ℕ → List ℕ

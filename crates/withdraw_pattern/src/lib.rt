@@ -1,5 +1,8 @@
 // The entry that withdraws a pattern from the set in a lent array, in place.
-ghost use Rattle.lists.specs.Prelude.{◌≡◌, ◌<◌, length};
+#![tactic(auto)]
+
+ghost use Rattle.std.specs.Prelude.{◌≡◌, ◌<◌};
+ghost use Rattle.lists.specs.Prelude.{length};
 ghost use Rattle.answers.specs.Told.{told_size};
 ghost use Rattle.pattern_set.specs.PatternSet.{IsSet, patterns_of};
 ghost use Rattle.entries.specs.Entries.{told, after, withdraw_entry};

@@ -1,5 +1,6 @@
 // Words of an array, written from the front on.
-ghost use Rattle.lists.specs.Prelude.{◌≡◌, map, ℕ, ◌+◌, ◌-◌, ◌≤◌, ◌<◌, length, get_or, take, drop, replicate};
+ghost use Rattle.std.specs.Prelude.{◌≡◌, ◌+◌, ◌-◌, ◌≤◌, ◌<◌};
+ghost use Rattle.lists.specs.Prelude.{map, ℕ, length, get_or, take, drop, replicate};
 ghost use Rattle.withdraw_pattern.specs.Replaced.{replaced};
 
 // Moves the n words behind `at` down by one, each made smaller by m.

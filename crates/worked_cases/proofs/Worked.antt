@@ -1,10 +1,12 @@
 -- THE WORKED CASES: in every line of the table the two sides are equal. One test over the whole
 -- table is computed.
-use Rattle.lists.proofs.Prelude.{◌≡◌, ap, refl, ap₂, Bool, true, false, ◌&&◌, List, [], ◌∷◌, flatten, ℤ, pos, negsuc, T, eqb, eqb→eq, tabulate, last_below, any}
+use Rattle.std.specs.Prelude.{◌≡◌, ◌&&◌, ◌∷◌}
+use Rattle.lists.proofs.Prelude.{ap, refl, ap₂, Bool, true, false, List, [], flatten, ℤ, pos, negsuc, T, eqb, eqb→eq, tabulate, last_below, any}
 use Rattle.lists.proofs.Prelude.{select, same}
 use Rattle.lists.proofs.Tests.{and_split}
 use Rattle.gaps.specs.Gaps.{is_gap}
-use Rattle.cartesian.specs.Cartesian.{size, leftmost_from, leftmost, tree_within, tree, same_tree, distance_at, distances, cut_from, root_place, tree_of_within, tree_of}
+use Rattle.cartesian.specs.Cartesian.{size, leftmost_from, leftmost, tree_within, tree, same_tree, distance_at, distances, cut_from, root_place}
+use Rattle.cartesian.specs.Cartesian.{tree_of_within, tree_of}
 use Rattle.realization.specs.Realization.{realizable, left_turns, least_realization, failure_length, failure_lengths}
 use Rattle.global_parents.specs.GlobalParents.{last_left_child, is_prefix_child, global_parent, global_parents}
 use Rattle.ranking.specs.Rank.{factorial, rank_from, unrank, is_rank}
@@ -56,7 +58,9 @@ all_hold (c ∷ cs) t =
     (alike_eq c.given c.expected p.0, all_hold cs p.1)
 
 pub worked : AllHold table
-unfolding table hold alike equal tabulate last_below any select same flatten size leftmost_from leftmost tree_within tree same_tree distance_at distances cut_from
-    root_place tree_of_within tree_of realizable left_turns least_realization failure_length failure_lengths last_left_child is_prefix_child global_parent global_parents
+unfolding table hold alike equal tabulate last_below any select same flatten size leftmost_from leftmost tree_within tree same_tree distance_at distances
+    cut_from
+    root_place tree_of_within tree_of realizable left_turns least_realization failure_length failure_lengths last_left_child is_prefix_child global_parent
+    global_parents
     factorial rank_from unrank is_rank is_gap has_tree numbers_from end_hits hits_at hits hit_words
 worked = all_hold table tt

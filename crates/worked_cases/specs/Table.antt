@@ -1,6 +1,7 @@
 -- The starred worked cases of document 01 ('Readings worked through'), as one table: what a
 -- definition gives, and what document 01 says that it is.
-use Rattle.lists.specs.Prelude.{List, [], ◌∷◌, map, ℕ, ℤ, pos}
+use Rattle.std.specs.Prelude.{◌∷◌}
+use Rattle.lists.specs.Prelude.{List, [], map, ℕ, ℤ, pos}
 use Rattle.cartesian.specs.Cartesian.{distances}
 use Rattle.realization.specs.Realization.{least_realization, failure_lengths}
 use Rattle.global_parents.specs.GlobalParents.{global_parents}

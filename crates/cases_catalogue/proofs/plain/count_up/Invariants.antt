@@ -1,0 +1,10 @@
+-- `count_up` is safe and ends, and keeps the length of the list.
+use Rattle.std.specs.Prelude.{◌≡◌, ◌≤◌}
+use Rattle.lists.proofs.Prelude.{length}
+use Rattle.cases_catalogue.proofs.plain.count_up.Given as goal
+
+abbrev pub invariant-loop-i : goal.invariant-loop-i
+invariant-loop-i l = (l.i ≤ length l.list) × (length l.list ≡ length l.initial.list)
+
+abbrev pub decreases-loop-i : goal.decreases-loop-i
+decreases-loop-i l = l.i

@@ -1,0 +1,17 @@
+-- By the fingerprint first, then by the samples; where no pattern has the fingerprint, none is
+-- found.
+use Rattle.filter_windows.proofs.Lookups.{Looked-Fitting, Looked-none}
+use Rattle.filter_windows.proofs.look.Goals as goal
+
+pub returns-then-alike-eq0 : goal.returns-then-alike-eq0
+returns-then-alike-eq0 c =
+    let f = c.by_fingerprint-alike in
+    let a = c.args in
+    Looked-none a.lowbyte.now a.highbyte.now a.fits.now a.fingerprint a.n f.result f.ensures c.if-alike-eq0.true
+
+pub returns-else-alike-eq0 : goal.returns-else-alike-eq0
+returns-else-alike-eq0 c =
+    let f = c.by_fingerprint-alike in
+    let a = c.args in
+    Looked-Fitting a.lowbyte.now a.highbyte.now a.fits.now a.fingerprint a.n f.result f.ensures
+    c.fitting.result c.fitting.ensures

@@ -1,0 +1,25 @@
+-- `read_value` meets its contract: a gap clears the open minima; of a sample the push gives the
+-- distance and the open minima, and the advance the node and the attempts.
+use Rattle.lists.proofs.Prelude.{◌∙◌, sym, refl, pos, get_or}
+use Rattle.pattern_set.specs.PatternSet.{patterns_of}
+use Rattle.automaton_lookup.proofs.Words.{made_good}
+use Rattle.read_value.specs.Read.{position_at}
+use Rattle.read_value.proofs.Reading.{read_gap, read_sample}
+use Rattle.read_value.proofs.read_value.Goals as goal
+
+pub returns-then-is_gap : goal.returns-then-is_gap
+returns-then-is_gap c =
+    let a = c.args in
+    let made = c.requires.whole.0.made in
+    read_gap (patterns_of a.set.now) (made_good made) made.filled
+    (position_at a.taken a.node a.first a.next a.places.now a.heights.now) (get_or a.values.now a.i (pos 0))
+    a.first a.next a.places.now a.heights.now (sym c.is_gap.ensures ∙ c.if-is_gap.true) refl c.requires.are_counters.0
+
+pub returns : goal.returns
+returns c =
+    let a = c.args in
+    let made = c.requires.whole.0.made in
+    read_sample (patterns_of a.set.now) (made_good made) made.filled
+    (position_at a.taken a.node a.first a.next a.places.now a.heights.now) (get_or a.values.now a.i (pos 0)) _ _
+    c.push_minimum-p.result c.advance-a.result.node c.advance-a.result.attempts
+    (sym c.is_gap.ensures ∙ c.if-is_gap.false) c.push_minimum-p.ensures c.advance-a.ensures
