@@ -13,7 +13,7 @@ use Rattle.filter_passes.specs.Passes.{hits_from}
 use Rattle.filter_passes.proofs.Places.{hits_by_rank, length-rank_hits}
 use Rattle.filter_passes.proofs.Lists.{hits_step, words_step, words_end, rises_step, rises_end}
 
--- `all` is written to `old` from hit `at` on, and the rises f over its hits to `oldRises`; so far
+-- `all` is written to `old` from hit `at` on, and the rises f over its hits to `old_rises`; so far
 -- this has given `out` and `rises`, the next hit is `to`, and `rest` is to come
 pub record Written (f : ℕ × ℕ → ℤ) (old out : List ℕ) (old_rises rises : List ℤ) (at to : ℕ) (all rest : List (ℕ × ℕ)) : Type 0 where
   -- the arrays have kept their lengths
