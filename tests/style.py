@@ -80,7 +80,8 @@ def check_crates():
             name, needs = line.split(":", 1)
             listed[name.split()[0]] = needs.split()
     for name, needs in listed.items():
-        files = [p for part in ("src", "specs", "proofs") for p in (ROOT / "crates" / name / part).rglob("*") if p.suffix in (".rt", ".antt")]
+        parts = [ROOT / "crates" / name / part for part in ("src", "specs", "proofs")]
+        files = [p for part in parts for p in part.rglob("*") if p.suffix in (".rt", ".antt")]
         text = "\n".join(code(line, p) for p in files for line in p.read_text().splitlines())
         named = set(re.findall(r"Rattle\.([a-z_0-9]+)", text)) | set(re.findall(r"\b([a-z_0-9]+)::", text))
         for need in needs:
