@@ -1,5 +1,6 @@
 -- What all proofs are written with: what definitions are written with, and the kit's laws and
--- tactics, under their own names.
+-- tactics, under their own names; the laws of `Memᴰ` have its name in front. The operators of
+-- statements come from the kit's own prelude.
 pub use mathlib.Core.Path.{◌∙◌, ap, sym, refl, subst, ap₂}
 pub use mathlib.Core.Logic.{inl, inr, ⊎_elim}
 pub use mathlib.Core.Bool.{Bool, true, false, cond, not, true≢false, false≢true}
