@@ -1,32 +1,32 @@
 -- THE NUMBER OF A REFUSAL: from it the refusal can be read back, and it is not 0. The one place of
 -- the laws that lists the refusals.
 use Rattle.std.specs.Prelude.{◌≡◌, ◌∷◌, ◌<◌}
-use Rattle.lists.proofs.Prelude.{◌∙◌, ap, sym, refl, Option, none, some, some-injective, List, [], ℕ, zero, suc, get_or, arith}
+use Rattle.lists.proofs.Prelude.{◌∙◌, ap, sym, refl, Option, None, Some, same_Some, List, [], ℕ, zero, suc, get_or, arith}
 use Rattle.answers.specs.declared.Refusal.{Refusal}
 use Rattle.answers.specs.Told.{number}
 
 -- by number; 0 is none
 unfoldable pub refusals : List (Option Refusal)
 refusals =
-    none
-    ∷ some Refusal.Empty
-    ∷ some Refusal.TooLong
-    ∷ some Refusal.CodeTooLong
-    ∷ some Refusal.NotRealizable
-    ∷ some Refusal.BrokenSet
-    ∷ some Refusal.SetFull
-    ∷ some Refusal.OtherAutomaton
-    ∷ some Refusal.BrokenState
-    ∷ some Refusal.TextTooLong
-    ∷ some Refusal.ArrayTooShort
-    ∷ some Refusal.ListTooLong
-    ∷ some Refusal.CatalogueTooLong
-    ∷ some Refusal.HoldsGap
-    ∷ some Refusal.NoSuchPattern
-    ∷ some Refusal.OneValue
+    None
+    ∷ Some Refusal.Empty
+    ∷ Some Refusal.TooLong
+    ∷ Some Refusal.CodeTooLong
+    ∷ Some Refusal.NotRealizable
+    ∷ Some Refusal.BrokenSet
+    ∷ Some Refusal.SetFull
+    ∷ Some Refusal.OtherAutomaton
+    ∷ Some Refusal.BrokenState
+    ∷ Some Refusal.TextTooLong
+    ∷ Some Refusal.ArrayTooShort
+    ∷ Some Refusal.ListTooLong
+    ∷ Some Refusal.CatalogueTooLong
+    ∷ Some Refusal.HoldsGap
+    ∷ Some Refusal.NoSuchPattern
+    ∷ Some Refusal.OneValue
     ∷ []
 
-back : (r : Refusal) → get_or refusals (number r) none ≡ some r
+back : (r : Refusal) → get_or refusals (number r) None ≡ Some r
 unfolding refusals
 back Refusal.Empty = refl
 back Refusal.TooLong = refl
@@ -45,23 +45,23 @@ back Refusal.NoSuchPattern = refl
 back Refusal.OneValue = refl
 
 pub number_injective : (r s : Refusal) → number r ≡ number s → r ≡ s
-number_injective r s e = some-injective r s (sym (back r) ∙ ap (λ (n : ℕ). get_or refusals n none) e ∙ back s)
+number_injective r s e = same_Some r s (sym (back r) ∙ ap (λ (n : ℕ). get_or refusals n None) e ∙ back s)
 
 pub number_positive : (r : Refusal) → 0 < number r
 unfolding refusals
 number_positive r = go (number r) (back r)
   where
-    go : (n : ℕ) → get_or refusals n none ≡ some r → 0 < n
+    go : (n : ℕ) → get_or refusals n None ≡ Some r → 0 < n
     go zero e = absurd (let z : ◌≡◌ {A = ℕ} 0 1 = cc in let y : ⊥ = omega arith in y)
     go (suc n) e = omega arith
 
 -- the refusal of a number
 or_empty : Option Refusal → Refusal
-or_empty none = Refusal.Empty
-or_empty (some r) = r
+or_empty None = Refusal.Empty
+or_empty (Some r) = r
 
 pub refusal_of : ℕ → Refusal
-refusal_of n = or_empty (get_or refusals n none)
+refusal_of n = or_empty (get_or refusals n None)
 
 pub number_refusal : (r : Refusal) → refusal_of (number r) ≡ r
 unfolding refusal_of or_empty

@@ -1,8 +1,9 @@
--- What each answer tells: the number of the refusal in documents 01 and 02, 0 where there is none,
--- and the counts, 0 where it is refused.
-use Rattle.lists.specs.Prelude.{ℕ, pos, replicate}
-use Rattle.answers.specs.declared.{Refusal.{Refusal}, Written.{Written}, NextList.{NextList}, Encoded.{Encoded}, SetSize.{SetSize}, Built.{Built}}
-use Rattle.answers.specs.declared.{Filtered.{Filtered}, StreamAnswer.{StreamAnswer}, FirstHit.{FirstHit}, SearchState.{SearchState}}
+-- What each answer tells: the number of the refusal, 0 where there is none, and the counts, 0 where
+-- it is refused.
+use Rattle.std.specs.Prelude.{Result, Ok, Err}
+use Rattle.lists.specs.Prelude.{ℕ, pos, replicate, Option, None, Some}
+use Rattle.answers.specs.declared.{Refusal.{Refusal}, SetSize.{SetSize}, AutomatonSize.{AutomatonSize}, Filtered.{Filtered}}
+use Rattle.answers.specs.declared.{End.{End}, Progress.{Progress}, Hit.{Hit}, FirstHit.{FirstHit}, SearchState.{SearchState}}
 
 -- Document 01: When the finder declines; from 12 on document 02
 abbrev pub number : Refusal → ℕ
@@ -22,49 +23,52 @@ number Refusal.HoldsGap = 13
 number Refusal.NoSuchPattern = 14
 number Refusal.OneValue = 15
 
--- refusal and number of words
-abbrev pub told_written : Written → ℕ × ℕ
-told_written (Written.Words n) = (0, n)
-told_written (Written.Refused r) = (number r, 0)
+-- refusal and number: the words written, or a code
+abbrev pub told_number : Result ℕ Refusal → ℕ × ℕ
+told_number (Ok n) = (0, n)
+told_number (Err r) = (number r, 0)
 
 -- refusal; 1 where the list is the last of its catalogue; number of words
-abbrev pub told_next : NextList → ℕ × (ℕ × ℕ)
-told_next (NextList.Words n) = (0, (0, n))
-told_next NextList.Last = (0, (1, 0))
-told_next (NextList.Refused r) = (number r, (0, 0))
-
--- refusal and code
-abbrev pub told_encoded : Encoded → ℕ × ℕ
-told_encoded (Encoded.Code c) = (0, c)
-told_encoded (Encoded.Refused r) = (number r, 0)
+abbrev pub told_next : Result (Option ℕ) Refusal → ℕ × (ℕ × ℕ)
+told_next (Ok (Some n)) = (0, (0, n))
+told_next (Ok None) = (0, (1, 0))
+told_next (Err r) = (number r, (0, 0))
 
 -- refusal, patterns and distances
-abbrev pub told_size : SetSize → ℕ × (ℕ × ℕ)
-told_size (SetSize.Holds k n) = (0, (k, n))
-told_size (SetSize.Refused r) = (number r, (0, 0))
+abbrev pub told_size : Result SetSize Refusal → ℕ × (ℕ × ℕ)
+told_size (Ok s) = (0, (s.patterns, s.distances))
+told_size (Err r) = (number r, (0, 0))
 
 -- refusal, nodes and words
-abbrev pub told_built : Built → ℕ × (ℕ × ℕ)
-told_built (Built.Nodes n w) = (0, (n, w))
-told_built (Built.Refused r) = (number r, (0, 0))
+abbrev pub told_built : Result AutomatonSize Refusal → ℕ × (ℕ × ℕ)
+told_built (Ok a) = (0, (a.nodes, a.words))
+told_built (Err r) = (number r, (0, 0))
 
 -- refusal, hits and candidates
-abbrev pub told_filtered : Filtered → ℕ × (ℕ × ℕ)
-told_filtered (Filtered.Found h c) = (0, (h, c))
-told_filtered (Filtered.Refused r) = (number r, (0, 0))
+abbrev pub told_filtered : Result Filtered Refusal → ℕ × (ℕ × ℕ)
+told_filtered (Ok f) = (0, (f.hits, f.candidates))
+told_filtered (Err r) = (number r, (0, 0))
 
--- refusal; 1 where the values ended and 0 where the call is full; values taken, hits and attempts
-abbrev pub told_streamed : StreamAnswer → ℕ × (ℕ × ℕ × ℕ × ℕ)
-told_streamed (StreamAnswer.Ended c) = (0, (1, c.taken, c.hits, c.attempts))
-told_streamed (StreamAnswer.Full c) = (0, (0, c.taken, c.hits, c.attempts))
-told_streamed (StreamAnswer.Refused r) = (number r, (0, 0, 0, 0))
+-- 1 where the values ended and 0 where the call is full
+abbrev pub told_end : End → ℕ
+told_end End.Ended = 1
+told_end End.Full = 0
 
--- refusal; 1 where there is a hit and 0 where there is none; its last place, its pattern number and
--- the values read
-abbrev pub told_first : FirstHit → ℕ × (ℕ × ℕ × ℕ × ℕ)
-told_first (FirstHit.Found h) = (0, (1, h.last, h.pattern, h.read))
-told_first (FirstHit.NoHit n) = (0, (0, 0, 0, n))
-told_first (FirstHit.Refused r) = (number r, (0, 0, 0, 0))
+-- refusal; how the call ended; values taken, hits and attempts
+abbrev pub told_streamed : Result Progress Refusal → ℕ × (ℕ × ℕ × ℕ × ℕ)
+told_streamed (Ok p) = (0, (told_end p.end, p.counts.taken, p.counts.hits, p.counts.attempts))
+told_streamed (Err r) = (number r, (0, 0, 0, 0))
+
+-- 1 where there is a hit and 0 where there is none; its last place, its pattern number and the
+-- values read
+abbrev pub told_hit : Option Hit → ℕ → ℕ × ℕ × ℕ × ℕ
+told_hit (Some h) read = (1, h.last, h.pattern, read)
+told_hit None read = (0, 0, 0, read)
+
+-- refusal, and the hit
+abbrev pub told_first : Result FirstHit Refusal → ℕ × (ℕ × ℕ × ℕ × ℕ)
+told_first (Ok f) = (0, told_hit f.hit f.read)
+told_first (Err r) = (number r, (0, 0, 0, 0))
 
 -- ---- The state of a new search. Document 01: A new search starts with nothing taken, rung 0 and
 -- no open low. Document 02, 2.7: The readings not yet filled are 0.

@@ -5,103 +5,122 @@
 ghost use Rattle.std.specs.Prelude.{◌≡◌};
 ghost use Rattle.answers.specs.Told.{number, new_search};
 
-// The reasons for a refusal; documents 01 and 02 number them 1 to 15 in this order.
-#[derive(Clone, Copy)]
+use std::error::Error;
+use std::fmt;
+
+// The reasons for a refusal, with their numbers.
+#[derive(Clone, Copy, Debug, PartialEq, Eq)]
 pub enum Refusal {
-    Empty,
-    TooLong,
-    CodeTooLong,
-    NotRealizable,
-    BrokenSet,
-    SetFull,
-    OtherAutomaton,
-    BrokenState,
-    TextTooLong,
-    ArrayTooShort,
-    ListTooLong,
-    CatalogueTooLong,
-    HoldsGap,
-    NoSuchPattern,
-    OneValue,
+    Empty = 1,
+    TooLong = 2,
+    CodeTooLong = 3,
+    NotRealizable = 4,
+    BrokenSet = 5,
+    SetFull = 6,
+    OtherAutomaton = 7,
+    BrokenState = 8,
+    TextTooLong = 9,
+    ArrayTooShort = 10,
+    ListTooLong = 11,
+    CatalogueTooLong = 12,
+    HoldsGap = 13,
+    NoSuchPattern = 14,
+    OneValue = 15,
 }
 
-// The number of words or values at the front of the lent array that hold the result.
-#[derive(Clone, Copy)]
-pub enum Written {
-    Words(usize),
-    Refused(Refusal),
+// The number of a refusal.
+impl From<Refusal> for u32 {
+    ghost from_gives = { λ r n. n ≡ number r };
+
+    fn from(r: Refusal) -> u32 {
+        r as u32
+    }
 }
 
-// The number of words at the front of the lent array that hold the next list of the catalogue.
-// Last: there is none, and nothing is written.
-#[derive(Clone, Copy)]
-pub enum NextList {
-    Words(usize),
-    Last,
-    Refused(Refusal),
+// What was refused, in a few words.
+impl fmt::Display for Refusal {
+    fn fmt<W: fmt::Write>(&self, f: &mut fmt::Formatter<W>) -> fmt::Result {
+        match self {
+            Refusal::Empty => write!(f, "no value, no distance or no pattern"),
+            Refusal::TooLong => write!(f, "more than 256 values or distances"),
+            Refusal::CodeTooLong => write!(f, "more than 20 distances for a code"),
+            Refusal::NotRealizable => write!(f, "no values have these distances"),
+            Refusal::BrokenSet => write!(f, "not a set of patterns"),
+            Refusal::SetFull => write!(f, "no room in the set"),
+            Refusal::OtherAutomaton => write!(f, "not the automaton of the set"),
+            Refusal::BrokenState => write!(f, "not a state of a search over the set"),
+            Refusal::TextTooLong => write!(f, "more than 1048576 values"),
+            Refusal::ArrayTooShort => write!(f, "a lent array is too short"),
+            Refusal::ListTooLong => write!(f, "more hits than the hit array has room for"),
+            Refusal::CatalogueTooLong => write!(f, "more than 10 distances for a catalogue"),
+            Refusal::HoldsGap => write!(f, "a gap among the values"),
+            Refusal::NoSuchPattern => write!(f, "no pattern of that number"),
+            Refusal::OneValue => write!(f, "a pattern of one value"),
+        }
+    }
 }
 
-// The rank of a list of distances.
-#[derive(Clone, Copy)]
-pub enum Encoded {
-    Code(u64),
-    Refused(Refusal),
+impl Error for Refusal {}
+
+// The patterns of a set, and their distances.
+#[derive(Clone, Copy, Debug, PartialEq, Eq)]
+pub struct SetSize {
+    pub patterns: usize,
+    pub distances: usize,
 }
 
-// The patterns and the distances that a set array holds.
-#[derive(Clone, Copy)]
-pub enum SetSize {
-    Holds(usize, usize),
-    Refused(Refusal),
-}
-
-// The nodes of the automaton and the words at the front of the lent array that hold it.
-#[derive(Clone, Copy)]
-pub enum Built {
-    Nodes(usize, usize),
-    Refused(Refusal),
+// The nodes of an automaton, and the words at the front of the lent array that hold it.
+#[derive(Clone, Copy, Debug, PartialEq, Eq)]
+pub struct AutomatonSize {
+    pub nodes: usize,
+    pub words: usize,
 }
 
 // The hits listed, and the candidates: the pairs of a pattern and a window within the text, without
 // a gap, whose last values, as many as the filter compares, have one fingerprint. Not every
 // candidate need be checked.
-#[derive(Clone, Copy)]
-pub enum Filtered {
-    Found(usize, usize),
-    Refused(Refusal),
+#[derive(Clone, Copy, Debug, PartialEq, Eq)]
+pub struct Filtered {
+    pub hits: usize,
+    pub candidates: usize,
 }
 
 // The values taken, the hits written and the attempts made by one call.
-#[derive(Clone, Copy)]
+#[derive(Clone, Copy, Debug, PartialEq, Eq)]
 pub struct Counts {
     pub taken: usize,
     pub hits: usize,
     pub attempts: usize,
 }
 
-// Ended: no value is left. Full: values are left, and the rest of the hit array may be too short
-// for the hits of one more.
-#[derive(Clone, Copy)]
-pub enum StreamAnswer {
-    Ended(Counts),
-    Full(Counts),
-    Refused(Refusal),
+// How an accepted call of the stream search ended. Ended: no value is left. Full: values are left,
+// and the rest of the hit array may be too short for the hits of one more.
+#[derive(Clone, Copy, Debug, PartialEq, Eq)]
+pub enum End {
+    Ended,
+    Full,
 }
 
-// The last place and the pattern number of a hit, and the values read up to and with that place.
-#[derive(Clone, Copy)]
+// What an accepted call of the stream search did.
+#[derive(Clone, Copy, Debug, PartialEq, Eq)]
+pub struct Progress {
+    pub end: End,
+    pub counts: Counts,
+}
+
+// The last place and the pattern number of a hit.
+#[derive(Clone, Copy, Debug, PartialEq, Eq)]
 pub struct Hit {
     pub last: usize,
     pub pattern: usize,
-    pub read: usize,
 }
 
-// The first hit of a text, or the values read, which are all, where there is none.
-#[derive(Clone, Copy)]
-pub enum FirstHit {
-    Found(Hit),
-    NoHit(usize),
-    Refused(Refusal),
+// The first hit of a text, if there is one, and the values read: up to and with its last place, or
+// all where there is none.
+#[derive(Clone, Copy, Debug, PartialEq, Eq)]
+pub struct FirstHit {
+    pub hit: Option<Hit>,
+    pub read: usize,
 }
 
 // A search state between two calls: the values taken so far, the automaton's node, the open minima
@@ -124,7 +143,7 @@ pub struct SearchState {
 #[derive(Clone, Copy)]
 pub struct Streamed {
     pub state: SearchState,
-    pub answer: StreamAnswer,
+    pub answer: Result<Progress, Refusal>,
 }
 
 impl SearchState {
@@ -146,28 +165,5 @@ impl SearchState {
             values: [0; 256],
             recent: [0; 256],
         }
-    }
-}
-
-// The number of a refusal in documents 01 and 02.
-pub fn refusal_number(r: Refusal) -> u32
-    ensures { result ≡ number r }
-{
-    match r {
-        Refusal::Empty => 1,
-        Refusal::TooLong => 2,
-        Refusal::CodeTooLong => 3,
-        Refusal::NotRealizable => 4,
-        Refusal::BrokenSet => 5,
-        Refusal::SetFull => 6,
-        Refusal::OtherAutomaton => 7,
-        Refusal::BrokenState => 8,
-        Refusal::TextTooLong => 9,
-        Refusal::ArrayTooShort => 10,
-        Refusal::ListTooLong => 11,
-        Refusal::CatalogueTooLong => 12,
-        Refusal::HoldsGap => 13,
-        Refusal::NoSuchPattern => 14,
-        Refusal::OneValue => 15,
     }
 }

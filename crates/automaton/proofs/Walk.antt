@@ -1,7 +1,8 @@
 -- A WALK OVER THE NODES: what it carries along from the root's child on, and what it says of the
 -- words where it stops.
 use Rattle.std.specs.Prelude.{◌≡◌, ◌++◌, ◌+◌, ◌-◌, ◌*◌, ◌<◌}
-use Rattle.lists.proofs.Prelude.{◌∙◌, ap, sym, List, ℕ, eqb, length, begins, eq-eqb, ne_eqb, dec_lt, arith}
+use Rattle.std.specs.Prelude.{is_some, is_none}
+use Rattle.lists.proofs.Prelude.{◌∙◌, ap, sym, refl, Bool, true, false, not, Option, None, Some, List, ℕ, length, begins, arith}
 use Rattle.pattern_set.specs.PatternSet.{patterns_of}
 use Rattle.automaton_model.specs.Automaton.{nodes, first_child, automaton_words}
 use Rattle.automaton_model.proofs.Nodes.{node_root}
@@ -11,7 +12,7 @@ use Rattle.automaton_lookup.proofs.Words.{made_good}
 use Rattle.automaton_records.specs.Words.{record_words}
 use Rattle.automaton_records.proofs.Parents.{Child, first_behind}
 use Rattle.automaton.specs.declared.checking.Wrong.{Wrong}
-use Rattle.automaton.specs.Walk.{Along, Missing}
+use Rattle.automaton.specs.Walk.{Along, Missing, StopsAt}
 use Rattle.automaton.proofs.Records.{words_of, begin_at, node_words_lem, begins_not, begins_all}
 
 -- there is a node
@@ -52,16 +53,18 @@ module _ {set words : List ℕ} {k : ℕ} (w : Wrong) (h : 0 < w.node) where
       → (w.row ++ record_words w.record ≡ words_of (patterns_of set) w.node) × (16 ≡ length (words_of (patterns_of set) w.node)) × (length w.row ≡ 8)
   Missing-words m = node_words_lem (patterns_of set) w.node w.row (record_words w.record) h m.row m.fields
 
-  -- the words begin with the automaton where it stops at no node
-  pub begins_where : (count : ℕ) → count ≡ length (nodes (patterns_of set)) → Made set words k w.node → (w.node < count → Missing set words k w)
-      → eqb w.node count ≡ begins words (automaton_words (patterns_of set))
-  begins_where count e m f = go (dec_lt w.node count)
-    where
-      go : Dec (w.node < count) → eqb w.node count ≡ begins words (automaton_words (patterns_of set))
-      go (yes d) =
-          let v = Missing-words (f d) in
-          ne_eqb w.node count (λ q. omega arith)
-          ∙ sym
-          (begins_not m w.node (omega arith) (w.row ++ record_words w.record) (2 * k + 16 * w.node - 7) 16 (begin_at k w.node h) v.0 v.1
-          (f d).differs)
-      go (no d) = eq-eqb w.node count (omega (arith, m.within)) ∙ sym (begins_all m (omega (arith, m.within)))
+-- the answer of `is_none`
+pub none-result : {A : Type 0} (o : Option A) (b : Bool) → is_some o ≡ not b → b ≡ is_none o
+none-result o true e = rw e refl
+none-result o false e = rw e refl
+
+-- the words begin with the automaton where it stops at no node
+pub begins_where : (set words : List ℕ) (k count : ℕ) → count ≡ length (nodes (patterns_of set)) → (from : ℕ) (o : Option Wrong) → 0 < from
+    → StopsAt set words k count from o → is_none o ≡ begins words (automaton_words (patterns_of set))
+begins_where set words k count e from None h m = sym (begins_all m e)
+begins_where set words k count e from (Some w) h s =
+    let positive : 0 < w.node = omega (arith, s.1) in
+    let v = Missing-words w positive s.3 in
+    sym
+    (begins_not s.0 w.node (omega (arith, s.2)) (w.row ++ record_words w.record) (2 * k + 16 * w.node - 7) 16 (begin_at k w.node positive) v.0 v.1
+    s.3.differs)

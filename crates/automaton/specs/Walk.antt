@@ -1,6 +1,6 @@
 -- A walk over the nodes, by number, each of whose words are made from those before them.
 use Rattle.std.specs.Prelude.{◌≡◌, ◌++◌, ◌+◌, ◌-◌, ◌*◌, ◌≤◌, ◌<◌}
-use Rattle.lists.specs.Prelude.{false, List, ℕ, take, drop, same}
+use Rattle.lists.specs.Prelude.{false, List, ℕ, Option, None, Some, take, drop, same}
 use Rattle.pattern_set.specs.PatternSet.{patterns_of}
 use Rattle.automaton_model.specs.Automaton.{first_child, record_of, row_of}
 use Rattle.automaton_lookup.specs.Made.{Made}
@@ -26,3 +26,9 @@ pub record Missing (set words : List ℕ) (k : ℕ) (w : Wrong) : Type 0 where
   pub row : w.row ≡ row_of (patterns_of set) w.node
   pub fields : record_words w.record ≡ record_of (patterns_of set) w.node
   pub differs : same (take 16 (drop (2 * k + 16 * w.node - 7) words)) (w.row ++ record_words w.record) ≡ false
+
+-- where a walk from a node on stops, of count nodes: at none, where the words of all are there, or
+-- at the first one whose words are not
+abbrev pub StopsAt : (set words : List ℕ) (k count from : ℕ) → Option Wrong → Type 0
+StopsAt set words k count from None = Made set words k count
+StopsAt set words k count from (Some w) = Made set words k w.node × (from ≤ w.node) × (w.node < count) × Missing set words k w

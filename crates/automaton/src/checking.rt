@@ -6,9 +6,11 @@ ghost use Rattle.automaton_model.specs.Automaton.{nodes, automaton_words};
 ghost use Rattle.pattern_set.specs.PatternSet.{patterns_of, IsSet};
 ghost use Rattle.automaton_lookup.specs.Made.{Made};
 ghost use Rattle.automaton_records.specs.Words.{record_words};
-ghost use Rattle.automaton.specs.Walk.{Along, Missing};
+ghost use Rattle.automaton.specs.Walk.{Along, StopsAt};
 
+use automaton_lookup::Records;
 use automaton_records::Record;
+use set_access::Patterns;
 
 // Whether the words begin with the order, what neighbours share, and the number of nodes.
 pub(crate) fn is_front(set: &[u32], k: usize, words: &[u32]) -> bool
@@ -19,28 +21,22 @@ pub(crate) fn is_front(set: &[u32], k: usize, words: &[u32]) -> bool
     if words.len() < 2 * k + 1 {
         return false;
     }
-    if !automaton_order::is_order(set, words) {
+    let patterns = Patterns::of(set);
+    if !automaton_order::is_order(&patterns, words) {
         return false;
     }
-    if !automaton_order::is_shared(set, words) {
+    if !automaton_order::is_shared(&patterns, words) {
         return false;
     }
-    casts::wide(words[2 * k]) == automaton_order::count_nodes(set, words)
+    words[2 * k] as usize == automaton_order::count_nodes(&patterns, words)
 }
 
 // Whether eight words stand from `at` on.
 fn is_eight(words: &[u32], at: usize, wanted: &[u32; 8]) -> bool
-    requires { (at + 8 ≤ length words.now) × (length wanted.now ≡ 8) }
+    requires { at + 8 ≤ length words.now }
     ensures { result ≡ same (take 8 (drop at words.now)) wanted.now }
 {
-    let mut i = 0;
-    while i < 8 {
-        if words[at + i] != wanted[i] {
-            return false;
-        }
-        i += 1;
-    }
-    true
+    words[at..at + 8] == wanted[..]
 }
 
 // Whether the words of a record stand from `at` on.
@@ -63,7 +59,7 @@ fn is_record(words: &[u32], at: usize, r: Record) -> bool
 
 // Whether the row of a node stands from `at` on, and behind it its record.
 fn is_node(words: &[u32], at: usize, row: &[u32; 8], r: Record) -> bool
-    requires { (at + 16 ≤ length words.now) × (length row.now ≡ 8) }
+    requires { at + 16 ≤ length words.now }
     ensures { result ≡ same (take 16 (drop at words.now)) (row.now ++ record_words r) }
 {
     if !is_eight(words, at, row) {
@@ -72,9 +68,8 @@ fn is_node(words: &[u32], at: usize, row: &[u32; 8], r: Record) -> bool
     is_record(words, at + 8, r)
 }
 
-// What a walk over the nodes stops at: the first node whose words are not there, its parent, the
-// place behind the last pattern that begins with its head, and its row and record. Where the words
-// of all nodes are there, the number of nodes.
+// A node whose words are not there: its parent, the place behind the last pattern that begins with
+// its head, and its row and record.
 #[derive(Clone, Copy)]
 pub(crate) struct Wrong {
     pub(crate) node: usize,
@@ -84,23 +79,9 @@ pub(crate) struct Wrong {
     pub(crate) record: Record,
 }
 
-// What a walk stops at where the words of all nodes are there: the rest is not read.
-fn none_wrong(set: &[u32], count: usize) -> Wrong
-    requires set { IsSet set.now }
-    requires nonzero { 0 < length (patterns_of set.now) }
-    ensures { result.node ≡ count }
-{
-    Wrong {
-        node: count,
-        parent: 0,
-        end: 0,
-        row: [0; 8],
-        record: automaton_records::root_record(set),
-    }
-}
-
 // The first node from `from` on whose words are not there. Each is made from those before it, which
 // are known to be right. The row is an array of the walk's own, apart from the words.
+// Seven parameters: the words are written between two walks, so no view can be kept over them.
 pub(crate) fn first_wrong(
     set: &[u32],
     k: usize,
@@ -109,34 +90,32 @@ pub(crate) fn first_wrong(
     from: usize,
     parent: usize,
     end: usize,
-) -> Wrong
+) -> Option<Wrong>
     requires along { Along set.now words.now k count parent end from }
     requires count_value { count ≡ length (nodes (patterns_of set.now)) }
-    ensures made { Made set.now words.now k result.node × (from ≤ result.node) }
-    ensures missing { result.node < count → Missing set.now words.now k result }
+    ensures { StopsAt set.now words.now k count from result }
 {
     let mut row = [0u32; 8];
     let mut p = parent;
     let mut e = end;
-    let mut n = from;
-    while n < count {
-        p = automaton_records::next_parent(set, words, k, n, n, p);
-        let place = automaton_records::next_place(set, words, k, n, n, p, e);
-        let made = automaton_records::make_record(set, words, k, n, p, place, &mut row);
+    for n in from..count {
+        let before = Records::begun(set, words, k, n);
+        p = automaton_records::next_parent(&before, p);
+        let place = automaton_records::next_place(&before, p, e);
+        let made = automaton_records::make_record(&before, p, place, &mut row);
         let record = made.record;
         e = made.end;
         if !is_node(words, 2 * k + 16 * n - 7, &row, record) {
-            return Wrong {
+            return Some(Wrong {
                 node: n,
                 parent: p,
                 end: e,
                 row,
                 record,
-            };
+            });
         }
-        n += 1;
     }
-    none_wrong(set, count)
+    None
 }
 
 // Whether the records of all nodes stand behind the number of nodes, and before each but that of
@@ -150,6 +129,5 @@ pub(crate) fn are_records(set: &[u32], k: usize, count: usize, words: &[u32]) ->
     if !is_record(words, 2 * k + 1, root) {
         return false;
     }
-    let wrong = first_wrong(set, k, count, words, 1, 0, 0);
-    wrong.node == count
+    first_wrong(set, k, count, words, 1, 0, 0).is_none()
 }

@@ -2,3 +2,4 @@
 pub mod Words
 pub mod ChildSearch
 pub mod Places
+pub mod Walk

@@ -15,6 +15,7 @@ use Rattle.automaton_model.specs.Automaton.{nodes, order, shared_at, record_of, 
 use Rattle.automaton_model.proofs.Order.{length-order}
 use Rattle.automaton_model.proofs.Lengths.{length_automaton, length_row, length_node}
 use Rattle.automaton_lookup.specs.Made.{Made}
+use Rattle.automaton_lookup.specs.Reads.{Reads}
 
 -- ---- the words
 
@@ -129,3 +130,15 @@ module _ {set automaton : List ℕ} {k m : ℕ} (r : Made set automaton k m) whe
 pub words-Made : (set : List ℕ) (k m : ℕ) → IsSet set → k ≡ length (patterns_of set) → 0 < length (patterns_of set) → m ≤ length (nodes (patterns_of set))
     → Made set (automaton_words (patterns_of set)) k m
 words-Made set k m g e z l = record { is_set = g; patterns = e; filled = z; within = l; begun = refl; room = omega arith }
+
+-- where the words lie that a view reads
+pub made_reads : {set automaton : List ℕ} {k m : ℕ} → Made set automaton k m → Reads set automaton k m
+made_reads r =
+    record {
+      room = made_room r;
+      order = made_order r;
+      shared = made_shared r;
+      count = made_count r;
+      field = made_field r;
+      row = made_row r;
+    }

@@ -1,7 +1,6 @@
 // Making the record of one node of the automaton, and its row, from the set and from the words
-// before it, and finding the node's parent and first place. The nodes are made by number, so `made`
-// records are there: for the record of node n those of the nodes before it. k is the number of
-// patterns.
+// before it, and finding the node's parent and first place. The nodes are made by number: the next
+// one has the number of the records that are there.
 #![tactic(auto)]
 
 ghost use Rattle.std.specs.Prelude.{◌≡◌, ◌∷◌, ◌++◌, ◌+◌, ◌-◌, ◌≤◌, ◌<◌};
@@ -9,11 +8,14 @@ ghost use Rattle.lists.specs.Prelude.{[], T, length, get_or};
 ghost use Rattle.matching.specs.Matching.{is_head, failure, chain};
 ghost use Rattle.automaton_model.specs.Automaton.{nodes, head_of, node_of, ends_at, first_end, children, first_child, record_of, row_of};
 ghost use Rattle.pattern_set.specs.PatternSet.{patterns_of, IsSet};
-ghost use Rattle.automaton_lookup.specs.Made.{Made};
 ghost use Rattle.automaton_lookup.specs.Places.{place_of, end_of, ChildNode};
+ghost use Rattle.automaton_lookup.specs.View.{patterns};
 ghost use Rattle.automaton_records.specs.Words.{record_words};
 
-// The eight words of a node; docs/AUTOMATON.md says what each is.
+use automaton_lookup::Records;
+use automaton_rows::NextNode;
+
+/// The eight words of a node; docs/AUTOMATON.md says what each is.
 #[derive(Clone, Copy)]
 pub struct Record {
     pub depth: u32,
@@ -26,22 +28,14 @@ pub struct Record {
     pub ends: u32,
 }
 
-// The record of a node, and the place behind the last pattern that begins with its head.
+/// The record of a node, and the place behind the last pattern that begins with its head.
 #[derive(Clone, Copy)]
 pub struct MadeRecord {
     pub record: Record,
     pub end: usize,
 }
 
-// A number as a word: none is above that of the nodes.
-fn word(x: usize) -> u32
-    requires { x ≤ 4097 }
-    ensures { result ≡ x }
-{
-    x as u32
-}
-
-// The record of the root: every pattern begins with 0, so it has one child, node 1.
+/// The record of the root: every pattern begins with 0, so it has one child, node 1.
 pub fn root_record(set: &[u32]) -> Record
     requires set { IsSet set.now }
     requires nonzero { 0 < length (patterns_of set.now) }
@@ -59,223 +53,143 @@ pub fn root_record(set: &[u32]) -> Record
     }
 }
 
-// The place behind the last pattern that begins with the head of node n: the patterns share its
+// The place behind the last pattern that begins with the node's head: the patterns share its
 // distances one after the other.
-fn interval_end(
-    set: &[u32],
-    automaton: &[u32],
-    k: usize,
-    n: usize,
-    place: usize,
-    depth: usize,
-) -> usize
-    requires made { Made set.now automaton.now k n }
-    requires n_in_bounds { n < length (nodes (patterns_of set.now)) }
-    requires place_value { (place ≡ place_of (patterns_of set.now) n) × (depth ≡ length (head_of (patterns_of set.now) n)) }
-    ensures { result ≡ end_of (patterns_of set.now) n }
+fn interval_end(node: &NextNode) -> usize
+    ensures { result ≡ end_of (patterns node.now.records) node.now.records.made }
 {
-    let mut i = place + 1;
-    while i < k {
-        if automaton_lookup::shared_at(set, automaton, k, n, i) < depth {
+    for i in node.place + 1..node.records.k {
+        if node.records.shared_at(i) < node.depth {
             return i;
         }
-        i += 1;
     }
-    i
+    node.records.k
 }
 
-// How many patterns end at node n: those of its places that have no more distances come first.
-fn count_ends(
-    set: &[u32],
-    automaton: &[u32],
-    k: usize,
-    n: usize,
-    place: usize,
-    depth: usize,
-    end: usize,
-) -> usize
-    requires made { Made set.now automaton.now k n }
-    requires n_in_bounds { n < length (nodes (patterns_of set.now)) }
-    requires place_value { (place ≡ place_of (patterns_of set.now) n) × (depth ≡ length (head_of (patterns_of set.now) n)) }
-    requires end_value { end ≡ end_of (patterns_of set.now) n }
-    ensures { result ≡ ends_at (patterns_of set.now) (head_of (patterns_of set.now) n) }
+// How many patterns end at the node: those of its places that have no more distances come first.
+fn count_ends(node: &NextNode, end: usize) -> usize
+    requires end_value { end ≡ end_of (patterns node.now.records) node.now.records.made }
+    ensures { result ≡ ends_at (patterns node.now.records) (head_of (patterns node.now.records) node.now.records.made) }
 {
-    let mut i = place;
-    while i < end {
-        let j = automaton_lookup::pattern_in_order(set, automaton, k, n, i);
-        if set_access::pattern_length(set, j) != depth {
-            return i - place;
+    for i in node.place..end {
+        let pattern = node.records.pattern_at(i);
+        if pattern.len() != node.depth {
+            return i - node.place;
         }
-        i += 1;
     }
-    i - place
+    end - node.place
 }
 
-// The label of node n: the last of its head's distances, in the pattern at its first place.
-fn label_of(set: &[u32], automaton: &[u32], k: usize, n: usize, place: usize, depth: usize) -> u32
-    requires made { Made set.now automaton.now k n }
-    requires n_nonzero { (0 < n) × (n < length (nodes (patterns_of set.now))) }
-    requires place_value { (place ≡ place_of (patterns_of set.now) n) × (depth ≡ length (head_of (patterns_of set.now) n)) }
-    ensures { result ≡ get_or (head_of (patterns_of set.now) n) (length (head_of (patterns_of set.now) n) - 1) 0 }
+// The label of the node: the last of its head's distances, in the pattern at its first place.
+fn label_of(node: &NextNode) -> u32
+    ensures { result
+        ≡ get_or (head_of (patterns node.now.records) node.now.records.made)
+        (length (head_of (patterns node.now.records) node.now.records.made) - 1) 0 }
 {
-    let j = automaton_lookup::pattern_in_order(set, automaton, k, n, place);
-    set_access::distance_at(set, j, depth - 1)
+    let pattern = node.records.pattern_at(node.place);
+    pattern[node.depth - 1]
 }
 
 // The failure link of the child of the given label: where a step with the label leads from the
 // parent's failure link.
-fn failure_of(
-    set: &[u32],
-    automaton: &[u32],
-    k: usize,
-    made: usize,
-    parent: usize,
-    label: u32,
-) -> usize
-    requires made { Made set.now automaton.now k made }
-    requires parent_lt_made { (parent < made) × (first_child (patterns_of set.now) parent ≤ made) }
-    requires t { T (is_head (patterns_of set.now) (head_of (patterns_of set.now) parent ++ (label ∷ []))) }
+fn failure_of(records: &Records, parent: usize, label: u32) -> usize
+    requires parent_lt_made { (parent < records.now.made) × (first_child (patterns records.now) parent ≤ records.now.made) }
+    requires t { T (is_head (patterns records.now) (head_of (patterns records.now) parent ++ (label ∷ []))) }
     ensures { result
-        ≡ node_of (patterns_of set.now) (failure (patterns_of set.now) (head_of (patterns_of set.now) parent ++ (label ∷ []))) }
+        ≡ node_of (patterns records.now) (failure (patterns records.now) (head_of (patterns records.now) parent ++ (label ∷ []))) }
 {
     if parent == 0 {
         return 0;
     }
-    let link = automaton_lookup::failure(set, automaton, k, made, parent);
-    let step = failure_walk::advance(set, automaton, k, made, link, label);
-    step.node
+    let link = records.failure(parent);
+    records.advance(link, label).node
 }
 
-// The output link of node n: itself where a pattern ends there, else that of its failure link.
-fn output_of(set: &[u32], automaton: &[u32], k: usize, n: usize, link: usize, ends: usize) -> usize
-    requires made { Made set.now automaton.now k n }
-    requires n_nonzero { (0 < n) × (n < length (nodes (patterns_of set.now))) }
-    requires link_value { (link ≡ node_of (patterns_of set.now) (failure (patterns_of set.now) (head_of (patterns_of set.now) n)))
-        × (ends ≡ ends_at (patterns_of set.now) (head_of (patterns_of set.now) n)) }
+// The output link of the node: itself where a pattern ends there, else that of its failure link.
+fn output_of(node: &NextNode, link: usize, ends: usize) -> usize
+    requires link_value { (link
+        ≡ node_of (patterns node.now.records)
+        (failure (patterns node.now.records) (head_of (patterns node.now.records) node.now.records.made)))
+        × (ends ≡ ends_at (patterns node.now.records) (head_of (patterns node.now.records) node.now.records.made)) }
     ensures { result
-        ≡ node_of (patterns_of set.now) (first_end (patterns_of set.now)
-        (chain (patterns_of set.now) (head_of (patterns_of set.now) n))) }
+        ≡ node_of (patterns node.now.records) (first_end (patterns node.now.records)
+        (chain (patterns node.now.records) (head_of (patterns node.now.records) node.now.records.made))) }
 {
     if ends == 0 {
-        return automaton_lookup::output(set, automaton, k, n, link);
+        return node.records.output(link);
     }
-    n
+    node.records.made
 }
 
 // The number behind those of a node's children: that of the first child of the next node.
-fn children_end(set: &[u32], automaton: &[u32], k: usize, made: usize, node: usize) -> usize
-    requires made { Made set.now automaton.now k made }
-    requires node_lt_made { node < made }
-    ensures { result ≡ first_child (patterns_of set.now) node + children (patterns_of set.now) node }
+fn children_end(records: &Records, node: usize) -> usize
+    requires node_lt_made { node < records.now.made }
+    ensures { result ≡ first_child (patterns records.now) node + children (patterns records.now) node }
 {
-    let first = automaton_lookup::first_child(set, automaton, k, made, node);
-    let count = automaton_lookup::children(set, automaton, k, made, node);
-    first + count
+    records.first_child(node) + records.children(node)
 }
 
-// A record of these numbers.
-fn record_from(
-    depth: usize,
-    label: u32,
-    link: usize,
-    output: usize,
-    first: usize,
-    count: usize,
-    place: usize,
-    ends: usize,
-) -> Record
-    requires { (depth ≤ 4097) × (link ≤ 4097) × (output ≤ 4097) × (first ≤ 4097) × (count ≤ 4097) × (place ≤ 4097) × (ends ≤ 4097) }
-    ensures { record_words result ≡ depth ∷ label ∷ link ∷ output ∷ first ∷ count ∷ place ∷ ends ∷ [] }
+/// The record of the next node, a child of `parent` whose first place is given, from the records
+/// before it; and its row, into an array for it.
+pub fn make_record(records: &Records, parent: usize, place: usize, row: &mut [u32; 8]) -> MadeRecord
+    requires n_nonzero { (0 < records.now.made) × (records.now.made < length (nodes (patterns records.now))) }
+    requires child_node { ChildNode (patterns records.now) parent records.now.made }
+    requires place_value { place ≡ place_of (patterns records.now) records.now.made }
+    ensures record_value { record_words result.record ≡ record_of (patterns records.now) records.now.made }
+    ensures end_value { result.end ≡ end_of (patterns records.now) records.now.made }
+    ensures row_after { row.new ≡ row_of (patterns records.now) records.now.made }
 {
-    Record {
-        depth: word(depth),
+    let depth = records.depth(parent) + 1;
+    let node = NextNode {
+        records: *records,
+        depth,
+        place,
+    };
+    let label = label_of(&node);
+    let link = failure_of(records, parent, label);
+    let end = interval_end(&node);
+    let ends = count_ends(&node, end);
+    let output = output_of(&node, link, ends);
+    let first = children_end(records, records.made - 1);
+    let count = automaton_rows::make_row(&node, link, first, place + ends, end, row);
+    let record = Record {
+        depth: depth as u32,
         label,
-        failure: word(link),
-        output: word(output),
-        first_child: word(first),
-        children: word(count),
-        first_place: word(place),
-        ends: word(ends),
-    }
-}
-
-// The record of node n, a child of `parent` whose first place is given, from the records before it;
-// and its row, into an array for it.
-pub fn make_record(
-    set: &[u32],
-    automaton: &[u32],
-    k: usize,
-    n: usize,
-    parent: usize,
-    place: usize,
-    row: &mut [u32; 8],
-) -> MadeRecord
-    requires made { Made set.now automaton.now k n }
-    requires n_nonzero { (0 < n) × (n < length (nodes (patterns_of set.now))) }
-    requires child_node { ChildNode (patterns_of set.now) parent n }
-    requires place_value { (place ≡ place_of (patterns_of set.now) n) × (length row.old ≡ 8) }
-    ensures record_value { record_words result.record ≡ record_of (patterns_of set.now) n }
-    ensures end_value { result.end ≡ end_of (patterns_of set.now) n }
-    ensures row_after { row.new ≡ row_of (patterns_of set.now) n }
-{
-    let depth = automaton_lookup::depth(set, automaton, k, n, parent) + 1;
-    let label = label_of(set, automaton, k, n, place, depth);
-    let link = failure_of(set, automaton, k, n, parent, label);
-    let end = interval_end(set, automaton, k, n, place, depth);
-    let ends = count_ends(set, automaton, k, n, place, depth, end);
-    let output = output_of(set, automaton, k, n, link, ends);
-    let first = children_end(set, automaton, k, n, n - 1);
-    let from = place + ends;
-    let count = automaton_rows::make_row(set, automaton, k, n, link, first, from, depth, end, row);
-    let record = record_from(depth, label, link, output, first, count, place, ends);
+        failure: link as u32,
+        output: output as u32,
+        first_child: first as u32,
+        children: count as u32,
+        first_place: place as u32,
+        ends: ends as u32,
+    };
     MadeRecord { record, end }
 }
 
-// The parent of node n, from a node on whose first child is not behind n: the first one whose
-// children do not all come before n.
-pub fn next_parent(
-    set: &[u32],
-    automaton: &[u32],
-    k: usize,
-    made: usize,
-    n: usize,
-    parent: usize,
-) -> usize
-    requires made { Made set.now automaton.now k made }
-    requires n_nonzero { (0 < n) × (n < length (nodes (patterns_of set.now))) × (n ≤ made) }
-    requires parent_bound { first_child (patterns_of set.now) parent ≤ n }
-    ensures { ChildNode (patterns_of set.now) result n }
+/// The parent of the next node, from a node on whose first child is not behind it: the first one
+/// whose children do not all come before it.
+pub fn next_parent(records: &Records, parent: usize) -> usize
+    requires n_nonzero { (0 < records.now.made) × (records.now.made < length (nodes (patterns records.now))) }
+    requires parent_bound { first_child (patterns records.now) parent ≤ records.now.made }
+    ensures { ChildNode (patterns records.now) result records.now.made }
 {
     let mut p = parent;
-    loop {
-        if n < children_end(set, automaton, k, made, p) {
-            return p;
-        }
+    while records.made >= children_end(records, p) {
         p += 1;
     }
+    p
 }
 
-// The first place of node n: behind the patterns that end at its parent where it is the first
-// child, else where the node before it ends.
-pub fn next_place(
-    set: &[u32],
-    automaton: &[u32],
-    k: usize,
-    made: usize,
-    n: usize,
-    parent: usize,
-    end: usize,
-) -> usize
-    requires made { Made set.now automaton.now k made }
-    requires n_nonzero { (0 < n) × (n < length (nodes (patterns_of set.now))) × (n ≤ made) }
-    requires child_node { ChildNode (patterns_of set.now) parent n }
-    requires end_value { first_child (patterns_of set.now) parent < n → end ≡ end_of (patterns_of set.now) (n - 1) }
-    ensures { result ≡ place_of (patterns_of set.now) n }
+/// The first place of the next node: behind the patterns that end at its parent where it is the
+/// first child, else where the node before it ends.
+pub fn next_place(records: &Records, parent: usize, end: usize) -> usize
+    requires n_nonzero { (0 < records.now.made) × (records.now.made < length (nodes (patterns records.now))) }
+    requires child_node { ChildNode (patterns records.now) parent records.now.made }
+    requires end_value { first_child (patterns records.now) parent < records.now.made
+        → end ≡ end_of (patterns records.now) (records.now.made - 1) }
+    ensures { result ≡ place_of (patterns records.now) records.now.made }
 {
-    if n == automaton_lookup::first_child(set, automaton, k, made, parent) {
-        let place = automaton_lookup::first_place(set, automaton, k, made, parent);
-        let ends = automaton_lookup::ends(set, automaton, k, made, parent);
-        return place + ends;
+    if records.made == records.first_child(parent) {
+        return records.first_place(parent) + records.ends(parent);
     }
     end
 }

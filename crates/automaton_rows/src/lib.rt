@@ -1,7 +1,6 @@
 // Making the row of one node of the automaton, what the steps of the distances 0 to 7 find from it:
 // from the row of its failure link and from the children that the set tells of. The nodes are made
-// by number, so for the row of node n the records of the nodes before it are there. k is the number
-// of patterns.
+// by number, so for the row of a node the records of the nodes before it are there.
 #![tactic(auto)]
 
 ghost use Rattle.std.specs.Prelude.{◌≡◌, ◌+◌, ◌≤◌, ◌<◌};
@@ -9,27 +8,32 @@ ghost use Rattle.lists.specs.Prelude.{[], ℕ, length, get_or};
 ghost use Rattle.pattern_set.specs.PatternSet.{patterns_of};
 ghost use Rattle.matching.specs.Matching.{failure};
 ghost use Rattle.automaton_model.specs.Automaton.{nodes, head_of, node_of, order, ends_at, children, first_child, row_of};
-ghost use Rattle.automaton_lookup.specs.Made.{Made};
 ghost use Rattle.automaton_lookup.specs.Places.{place_of, end_of};
+ghost use Rattle.automaton_lookup.specs.View.{patterns};
 ghost use Rattle.automaton_rows.specs.Rows.{Eight, one_more, word_with, with_word, CutRow};
 
+use automaton_lookup::Records;
+
+/// The node to be made next, and not the root: its number is that of the records that are there.
+#[derive(Clone, Copy)]
+pub struct NextNode<'a> {
+    pub records: Records<'a>,
+    /// The number of distances of its head.
+    pub depth: usize,
+    /// The place of the order where the patterns that begin with its head begin.
+    pub place: usize,
+    pub ghost number: { (0 < records.made) × (records.made < length (nodes (patterns_of records.set.now))) },
+    pub ghost deep: { depth ≡ length (head_of (patterns_of records.set.now) records.made) },
+    pub ghost placed: { place ≡ place_of (patterns_of records.set.now) records.made },
+}
+
 // The row of the failure link, with one attempt more.
-fn failure_row(
-    set: &[u32],
-    automaton: &[u32],
-    k: usize,
-    made: usize,
-    link: usize,
-    row: &mut [u32; 8],
-)
-    requires made { Made set.now automaton.now k made }
-    requires link_lt_made { (link < made) × (length row.old ≡ 8) }
-    ensures { Eight (one_more (patterns_of set.now) link) row.new }
+fn failure_row(records: &Records, link: usize, row: &mut [u32; 8])
+    requires link_lt_made { link < records.now.made }
+    ensures { Eight (one_more (patterns records.now) link) row.new }
 {
-    let mut x = 0;
-    while x < 8 {
-        row[x] = failure_walk::near_step(set, automaton, k, made, link, x) + 65536;
-        x += 1;
+    for x in 0..8 {
+        row[x] = records.near_step(link, x) + 65536;
     }
 }
 
@@ -44,93 +48,71 @@ fn put_child(row: &mut [u32; 8], label: u32, child: usize)
 }
 
 // The distance of the pattern at place i of the order that follows its first ones.
-fn next_label(set: &[u32], automaton: &[u32], k: usize, n: usize, i: usize, depth: usize) -> u32
-    requires made { Made set.now automaton.now k n }
-    requires i_lt_k { (i < k) × (depth < length (get_or (patterns_of set.now) (get_or (order (patterns_of set.now)) i 0) [])) }
-    ensures { result ≡ get_or (get_or (patterns_of set.now) (get_or (order (patterns_of set.now)) i 0) []) depth 0 }
+fn next_label(records: &Records, i: usize, depth: usize) -> u32
+    requires i_lt_k { (i < length (patterns records.now)) × (depth < length (get_or (patterns records.now) (get_or (order (patterns records.now)) i 0) [])) }
+    ensures { result ≡ get_or (get_or (patterns records.now) (get_or (order (patterns records.now)) i 0) []) depth 0 }
 {
-    let j = automaton_lookup::pattern_in_order(set, automaton, k, n, i);
-    set_access::distance_at(set, j, depth)
+    records.pattern_at(i)[depth]
 }
 
-// Puts the children of node n into the row and tells how many they are: the first begins behind the
-// patterns that end there, and another one at each place that shares just the head with the place
-// before.
-fn put_children(
-    set: &[u32],
-    automaton: &[u32],
-    k: usize,
-    n: usize,
-    first: usize,
-    from: usize,
-    depth: usize,
-    end: usize,
-    row: &mut [u32; 8],
-) -> usize
-    requires made { Made set.now automaton.now k n }
-    requires n_in_bounds { (n < length (nodes (patterns_of set.now))) × (depth ≡ length (head_of (patterns_of set.now) n)) }
-    requires from_value { from ≡ place_of (patterns_of set.now) n + ends_at (patterns_of set.now) (head_of (patterns_of set.now) n) }
-    requires first_value { (first ≡ first_child (patterns_of set.now) n) × (end ≡ end_of (patterns_of set.now) n) }
-    ensures value { result ≡ children (patterns_of set.now) n }
-    ensures by_index { (f : ℕ) → Eight (word_with (patterns_of set.now) n f 0) row.old
-        → Eight (word_with (patterns_of set.now) n f result) row.new }
+// Puts the children of the node into the row and tells how many they are: the first begins behind
+// the patterns that end there, and another one at each place that shares just the head with the
+// place before.
+fn put_children(node: &NextNode, first: usize, from: usize, end: usize, row: &mut [u32; 8]) -> usize
+    requires from_value { from ≡ place_of (patterns node.now.records) node.now.records.made
+        + ends_at (patterns node.now.records) (head_of (patterns node.now.records) node.now.records.made) }
+    requires first_value { (first ≡ first_child (patterns node.now.records) node.now.records.made)
+        × (end ≡ end_of (patterns node.now.records) node.now.records.made) }
+    ensures value { result ≡ children (patterns node.now.records) node.now.records.made }
+    ensures by_index { (f : ℕ) → Eight (word_with (patterns node.now.records) node.now.records.made f 0) row.old
+        → Eight (word_with (patterns node.now.records) node.now.records.made f result) row.new }
 {
     if end <= from {
         return 0;
     }
-    put_child(row, next_label(set, automaton, k, n, from, depth), first);
+    put_child(row, next_label(&node.records, from, node.depth), first);
     let mut count: usize = 1;
-    let mut i = from + 1;
-    while i < end {
-        if automaton_lookup::shared_at(set, automaton, k, n, i) == depth {
-            put_child(
-                row,
-                next_label(set, automaton, k, n, i, depth),
-                first + count,
-            );
+    for i in from + 1..end {
+        if node.records.shared_at(i) == node.depth {
+            put_child(row, next_label(&node.records, i, node.depth), first + count);
             count += 1;
         }
-        i += 1;
     }
     count
 }
 
 // Puts the word for distance 0 for the distances above the depth: they lead out of the window.
 fn fill_above(row: &mut [u32; 8], depth: usize)
-    requires { (depth ≤ 256) × (length row.old ≡ 8) }
+    requires { depth ≤ 256 }
     ensures { CutRow depth row.old row.new }
 {
-    let mut x = depth + 1;
-    while x < 8 {
+    for x in depth + 1..8 {
         row[x] = row[0];
-        x += 1;
     }
 }
 
-// Makes the row of node n, whose failure link, first child, depth and places are given, and tells
-// how many children it has.
+/// Makes the row of the node, whose failure link, first child and places are given, and tells how
+/// many children it has.
+/// Six parameters: numbers of one node that become known one by one, and its row.
 pub fn make_row(
-    set: &[u32],
-    automaton: &[u32],
-    k: usize,
-    n: usize,
+    node: &NextNode,
     link: usize,
     first: usize,
     from: usize,
-    depth: usize,
     end: usize,
     row: &mut [u32; 8],
 ) -> usize
-    requires made { Made set.now automaton.now k n }
-    requires n_nonzero { (0 < n) × (n < length (nodes (patterns_of set.now))) × (depth ≡ length (head_of (patterns_of set.now) n)) }
-    requires link_value { link ≡ node_of (patterns_of set.now) (failure (patterns_of set.now) (head_of (patterns_of set.now) n)) }
-    requires from_value { from ≡ place_of (patterns_of set.now) n + ends_at (patterns_of set.now) (head_of (patterns_of set.now) n) }
-    requires first_value { (first ≡ first_child (patterns_of set.now) n) × (end ≡ end_of (patterns_of set.now) n) × (length row.old ≡ 8) }
-    ensures value { result ≡ children (patterns_of set.now) n }
-    ensures row_after { row.new ≡ row_of (patterns_of set.now) n }
+    requires link_value { link ≡ node_of (patterns node.now.records)
+        (failure (patterns node.now.records) (head_of (patterns node.now.records) node.now.records.made)) }
+    requires from_value { from ≡ place_of (patterns node.now.records) node.now.records.made
+        + ends_at (patterns node.now.records) (head_of (patterns node.now.records) node.now.records.made) }
+    requires first_value { (first ≡ first_child (patterns node.now.records) node.now.records.made)
+        × (end ≡ end_of (patterns node.now.records) node.now.records.made) }
+    ensures value { result ≡ children (patterns node.now.records) node.now.records.made }
+    ensures row_after { row.new ≡ row_of (patterns node.now.records) node.now.records.made }
 {
-    failure_row(set, automaton, k, n, link, row);
-    let count = put_children(set, automaton, k, n, first, from, depth, end, row);
-    fill_above(row, depth);
+    failure_row(&node.records, link, row);
+    let count = put_children(node, first, from, end, row);
+    fill_above(row, node.depth);
     count
 }

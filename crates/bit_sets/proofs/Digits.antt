@@ -142,9 +142,9 @@ on_digits f g zz zo oz oo x y = go (digit x) (digit y)
     go (inr d) (inl e) = at 1 0 oz d e
     go (inr d) (inr e) = at 1 1 oo d e
 
-pub bit_at-and : (a b j : ℕ) → bit_at (bit_and a b) j ≡ (bit_at a j && bit_at b j)
+pub bit_at_and : (a b j : ℕ) → bit_at (bit_and a b) j ≡ (bit_at a j && bit_at b j)
 unfolding bit_at
-bit_at-and a b j =
+bit_at_and a b j =
     ap (λ (x : ℕ). eqb (x % 2) 1) (and_shr a b j) ∙ ap (λ (x : ℕ). eqb x 1) (and_mod (a / 2 ^ j) (b / 2 ^ j) 1)
     ∙ on_digits (λ p q. eqb (bit_and p q) 1) (λ p q. eqb p 1 && eqb q 1) refl refl refl refl (a / 2 ^ j) (b / 2 ^ j)
 

@@ -6,7 +6,7 @@ use Rattle.lists.proofs.Prelude.{◌∙◌, ap, sym, refl, Bool, true, false, �
 use Rattle.lists.proofs.Prelude.{pow_pos, mul_assoc, le-leb, lt-leb}
 use Rattle.lists.proofs.Tests.{and-true}
 use Rattle.bit_sets.specs.BitSets.{bit_at}
-use Rattle.bit_sets.proofs.Digits.{bit_at-zero, bit_at-suc, bit_at-and}
+use Rattle.bit_sets.proofs.Digits.{bit_at-zero, bit_at-suc, bit_at_and}
 
 -- ---- doubling
 
@@ -44,5 +44,5 @@ bit_at_ones (suc n) (suc j) h =
 
 pub bit_at_low : (m n j : ℕ) → j < n → bit_at (m % 2 ^ n) j ≡ bit_at m j
 bit_at_low m n j h =
-    ap (λ (x : ℕ). bit_at x j) (sym (and_mask m n)) ∙ bit_at-and m (2 ^ n - 1) j ∙ ap (λ (b : Bool). bit_at m j && b) (bit_at_ones n j h)
+    ap (λ (x : ℕ). bit_at x j) (sym (and_mask m n)) ∙ bit_at_and m (2 ^ n - 1) j ∙ ap (λ (b : Bool). bit_at m j && b) (bit_at_ones n j h)
     ∙ and-true (bit_at m j)

@@ -2,439 +2,268 @@
 // the way from case to case. All numbers are decimal.
 #![tactic(auto)]
 
-ghost use Rattle.lists.specs.Prelude.{eqb};
-ghost use Rattle.std.specs.Prelude.{if◌then◌else◌, ◌≡◌, ◌+◌, ◌≤◌, ◌<◌};
-ghost use Rattle.test_differences.specs.Difference.{first_of};
-ghost use Rattle.test_tally.specs.Tally.{no_cases, counted};
+ghost use Rattle.std.specs.Prelude.{◌≡◌, ◌≤◌};
 
-use answers::Written;
-use test_differences::difference::Difference;
-use test_differences::{difference, expect};
-use test_tally::Tally;
+use test_differences::difference;
+use test_differences::difference::{Difference, Number, Part};
+use test_tally::{Cases, Tally};
 
-// A number of the input, and the place behind it.
-#[derive(Clone, Copy)]
-pub struct Token {
-    pub at: usize,
-    pub size: u64,
-    pub negative: bool,
-}
+// So many cases are run at the most.
+const MOST: u64 = 100000;
 
-// What differs in a case, and the place behind it.
-#[derive(Clone, Copy)]
-pub struct Outcome {
-    pub at: usize,
-    pub difference: Difference,
-}
-
-// The refusal and the count that are expected, and the place behind them.
+// The refusal and the count that are expected; where none is refused, the refusal is 0.
 #[derive(Clone, Copy)]
 pub struct Expected {
-    pub at: usize,
     pub refusal: u64,
     pub count: u64,
 }
 
-// A case that is reached: its first number and the place behind that, the line that it begins on,
-// how many cases may be run from it on, and what was counted before it. At the end of the input
-// none may be run.
-#[derive(Clone, Copy)]
-pub struct Reached {
+impl Expected {
+    // The answer, or else the number of the refusal.
+    pub fn answer<T: Copy>(self, x: T) -> Result<T, u64> {
+        if self.refusal == 0 {
+            Ok(x)
+        } else {
+            Err(self.refusal)
+        }
+    }
+}
+
+// An input that is read forward from a place; the line that the last case began on, and the place
+// up to which lines were counted.
+#[derive(Drop)]
+pub struct Input<'a> {
+    bytes: &'a [u8],
     pub at: usize,
-    pub first: u64,
-    pub left: usize,
     pub line: usize,
-    pub tally: Tally,
+    counted: usize,
 }
 
-// The place of the next byte of a number.
-fn skip(s: &[u8], from: usize) -> usize
-    ensures { from ≤ result }
-{
-    let mut i = from;
-    while i < s.len() {
-        if s[i] > 44 {
-            return i;
+// A number of an array, as the input has it: a word or a value.
+pub trait Item: Number {
+    const PART: Part;
+
+    // The next number; 0 where there is none.
+    fn read(input: &mut Input<'_>) -> Self
+        ensures { input.old.at ≤ input.new.at };
+}
+
+impl Item for u32 {
+    const PART: Part = Part::Word;
+
+    // A number above all words is the highest one.
+    fn read(input: &mut Input<'_>) -> u32 {
+        u32::try_from(input.size()).unwrap_or(u32::MAX)
+    }
+}
+
+impl Item for i32 {
+    const PART: Part = Part::Value;
+
+    // A number outside of all values is the one nearest to it.
+    fn read(input: &mut Input<'_>) -> i32 {
+        if input.sign() {
+            return below_zero(input.digits());
         }
-        i += 1;
+        i32::try_from(input.digits()).unwrap_or(i32::MAX)
     }
-    i
-}
-
-// The digit that a byte stands for, or 10.
-fn digit(b: u8) -> u64
-    ensures { result ≤ 10 }
-{
-    if b < 48 {
-        return 10;
-    }
-    if b > 57 {
-        return 10;
-    }
-    (b - 48) as u64
-}
-
-// The number whose digits start at a place; a digit that makes it longer than 64 bits is left out.
-fn digits(s: &[u8], from: usize) -> Token
-    ensures { from ≤ result.at }
-{
-    let mut i = from;
-    let mut size: u64 = 0;
-    while i < s.len() {
-        let d = digit(s[i]);
-        if d == 10 {
-            break;
-        }
-        if size <= (18446744073709551615 - d) / 10 {
-            size = size * 10 + d;
-        }
-        i += 1;
-    }
-    Token {
-        at: i,
-        size,
-        negative: false,
-    }
-}
-
-// The next number; 0 where there is none.
-pub fn number(s: &[u8], from: usize) -> Token
-    ensures { from ≤ result.at }
-{
-    let i = skip(s, from);
-    if i >= s.len() {
-        return Token {
-            at: i,
-            size: 0,
-            negative: false,
-        };
-    }
-    if s[i] == 45 {
-        let n = digits(s, i + 1);
-        return Token {
-            at: n.at,
-            size: n.size,
-            negative: true,
-        };
-    }
-    digits(s, i)
-}
-
-// A number as a length; what is more than the most is cut.
-pub fn small(n: u64, most: usize) -> usize
-    ensures { result ≤ most }
-{
-    if n > most as u64 {
-        return most;
-    }
-    n as usize
-}
-
-// A number as a word.
-fn word(n: Token) -> u32 {
-    if n.size > 4294967295 {
-        return 4294967295;
-    }
-    n.size as u32
-}
-
-// The value below zero by one more than k.
-fn below_zero(k: u64) -> i32
-    requires { k < 2147483648 }
-{
-    -1 - (k as i32)
 }
 
 // A size below zero as a value.
-fn negative(size: u64) -> i32 {
-    if size == 0 {
-        return 0;
-    }
-    if size > 2147483648 {
-        return -2147483648;
-    }
-    below_zero(size - 1)
+fn below_zero(size: u64) -> i32 {
+    i32::try_from(-(size as i128)).unwrap_or(i32::MIN)
 }
 
-// A number as a value.
-fn value(n: Token) -> i32 {
-    let size = n.size;
-    if n.negative {
-        return negative(size);
+// The digit that a byte stands for, if it is one.
+fn digit(b: u8) -> Option<u64> {
+    if b < 48 || b > 57 {
+        return None;
     }
-    if size > 2147483647 {
-        return 2147483647;
-    }
-    size as i32
+    Some((b - 48) as u64)
 }
 
-// As many words as the array has; the place behind them.
-pub fn words(s: &[u8], from: usize, out: &mut [u32]) -> usize
-    ensures { from ≤ result }
-{
-    let mut at = from;
-    let mut i = 0;
-    while i < out.len() {
-        let n = number(s, at);
-        at = n.at;
-        out[i] = word(n);
-        i += 1;
-    }
-    at
-}
-
-// As many values as the array has; the place behind them.
-pub fn values(s: &[u8], from: usize, out: &mut [i32]) -> usize
-    ensures { from ≤ result }
-{
-    let mut at = from;
-    let mut i = 0;
-    while i < out.len() {
-        let n = number(s, at);
-        at = n.at;
-        out[i] = value(n);
-        i += 1;
-    }
-    at
-}
-
-// Nothing differs before a place.
-fn start_at(at: usize) -> Outcome
-    ensures { at ≤ result.at }
-{
-    Outcome {
-        at,
-        difference: difference::none(),
+// A size and one digit more, which is left out where it makes the size longer than 64 bits.
+fn longer(size: u64, digit: u64) -> u64 {
+    match size.checked_mul(10) {
+        Some(x) => x.checked_add(digit).unwrap_or(size),
+        None => size,
     }
 }
-
-// The next word of the input is expected at a place of an array that holds x there.
-fn expect_next_word(s: &[u8], o: Outcome, i: usize, x: u32) -> Outcome
-    ensures { o.at ≤ result.at }
-{
-    let d = o.difference;
-    let n = number(s, o.at);
-    Outcome {
-        at: n.at,
-        difference: difference::first(d, difference::expect_word(i, word(n), x)),
-    }
-}
-
-// The next words of the input are expected in the array.
-pub fn expect_words(s: &[u8], from: usize, a: &[u32]) -> Outcome
-    ensures { from ≤ result.at }
-{
-    let mut o = start_at(from);
-    let mut i = 0;
-    while i < a.len() {
-        o = expect_next_word(s, o, i, a[i]);
-        i += 1;
-    }
-    o
-}
-
-// The next value of the input is expected at a place of an array that holds x there.
-fn expect_next_value(s: &[u8], o: Outcome, i: usize, x: i32) -> Outcome
-    ensures { o.at ≤ result.at }
-{
-    let d = o.difference;
-    let n = number(s, o.at);
-    Outcome {
-        at: n.at,
-        difference: difference::first(d, difference::expect_value(i, value(n), x)),
-    }
-}
-
-// The next values of the input are expected in the array.
-pub fn expect_values(s: &[u8], from: usize, a: &[i32]) -> Outcome
-    ensures { from ≤ result.at }
-{
-    let mut o = start_at(from);
-    let mut i = 0;
-    while i < a.len() {
-        o = expect_next_value(s, o, i, a[i]);
-        i += 1;
-    }
-    o
-}
-
-// A value that stands in the input so many times more, and the place behind it.
-#[derive(Clone, Copy)]
-struct Run {
-    at: usize,
-    left: u64,
-    value: i32,
-}
-
-// The same value once more, or the first of the next run, which has at least one.
-fn next_value(s: &[u8], r: Run) -> Run
-    ensures { r.at ≤ result.at }
-{
-    if r.left > 0 {
-        return Run {
-            at: r.at,
-            left: r.left - 1,
-            value: r.value,
-        };
-    }
-    let count = number(s, r.at);
-    let x = number(s, count.at);
-    let left = if count.size > 0 { count.size - 1 } else { 0 };
-    Run {
-        at: x.at,
-        left,
-        value: value(x),
-    }
-}
-
-// What differs in runs, and the run that is read.
-#[derive(Clone, Copy)]
-struct Running {
-    run: Run,
-    difference: Difference,
-}
-
-// The next value of the runs is expected at a place of an array that holds x there.
-fn expect_next_run(s: &[u8], r: Running, i: usize, x: i32) -> Running
-    ensures { r.run.at ≤ result.run.at }
-{
-    let d = r.difference;
-    let before = r.run;
-    let run = next_value(s, before);
-    Running {
-        run,
-        difference: difference::first(d, difference::expect_value(i, run.value, x)),
-    }
-}
-
-// The runs from a place on, none of which is read.
-fn first_run(at: usize) -> Running
-    ensures { at ≤ result.run.at }
-{
-    let run = Run {
-        at,
-        left: 0,
-        value: 0,
-    };
-    Running {
-        run,
-        difference: difference::none(),
-    }
-}
-
-// The next runs of the input, each given by its length and its value, are expected in the array.
-pub fn expect_runs(s: &[u8], from: usize, a: &[i32]) -> Outcome
-    ensures { from ≤ result.at }
-{
-    let mut r = first_run(from);
-    let mut i = 0;
-    while i < a.len() {
-        r = expect_next_run(s, r, i, a[i]);
-        i += 1;
-    }
-    let run = r.run;
-    let d = r.difference;
-    Outcome {
-        at: run.at,
-        difference: d,
-    }
-}
-
-// The refusal and the count that are expected next.
-pub fn read_expected(s: &[u8], from: usize) -> Expected
-    ensures { from ≤ result.at }
-{
-    let refusal = number(s, from);
-    let count = number(s, refusal.at);
-    Expected {
-        at: count.at,
-        refusal: refusal.size,
-        count: count.size,
-    }
-}
-
-// The outcome of a case in which something else may differ, too, which comes first.
-pub fn after(d: Difference, o: Outcome) -> Outcome
-    ensures { (o.at ≤ result.at) × (result.difference ≡ first_of d o.difference) }
-{
-    let other = o.difference;
-    Outcome {
-        at: o.at,
-        difference: difference::first(d, other),
-    }
-}
-
-// The answer and the words of an array, held against the refusal and the count, and the words that
-// are expected behind them.
-pub fn expect_written(s: &[u8], want: Expected, a: Written, out: &[u32]) -> Outcome
-    ensures { want.at ≤ result.at }
-{
-    let o = expect_words(s, want.at, out);
-    after(expect::written(a, want.refusal, want.count), o)
-}
-
-// ---- from case to case
 
 // The line ends from a place up to another.
-fn line_ends(s: &[u8], from: usize, end: usize) -> usize {
-    let mut count: usize = 0;
-    let mut i = from;
-    while i < end {
-        if i >= s.len() {
-            return count;
+fn line_ends(bytes: &[u8], from: usize, end: usize) -> usize {
+    let e = end.min(bytes.len());
+    let a = from.min(e);
+    bytes[a..e].iter().filter(|b| **b == 10).count()
+}
+
+impl<'a> Input<'a> {
+    // The input from its start.
+    pub fn new(bytes: &'a [u8]) -> Self
+        ensures { (result.at ≡ 0) × (result.line ≡ 1) }
+    {
+        Input {
+            bytes,
+            at: 0,
+            line: 1,
+            counted: 0,
         }
-        if s[i] == 10 {
-            count = std::num::wrapping_add_usize(count, 1);
+    }
+
+    // Goes on to the next byte of a number.
+    fn skip(&mut self)
+        ensures { self.old.at ≤ self.new.at }
+    {
+        let bytes = self.bytes;
+        for i in self.at..bytes.len() {
+            if bytes[i] > 44 {
+                return;
+            }
+            self.at = i + 1;
         }
-        i += 1;
     }
-    count
-}
 
-// How many cases may be run, where the first number of a case is 0 at the end of the input.
-fn still_left(first: u64, left: usize) -> usize
-    ensures { (result ≤ left) × (result ≡ (if eqb first 0 then 0 else left)) }
-{
-    if first == 0 { 0 } else { left }
-}
+    // Goes on to the digits of the next number; whether a minus sign stands before them.
+    fn sign(&mut self) -> bool
+        ensures { self.old.at ≤ self.new.at }
+    {
+        self.skip();
+        let bytes = self.bytes;
+        if self.at < bytes.len() && bytes[self.at] == 45 {
+            self.at += 1;
+            return true;
+        }
+        false
+    }
 
-// The case that begins behind a place, with so many that may be run, on the way from another one.
-fn reach(s: &[u8], before: Reached, from: usize, left: usize, t: Tally) -> Reached
-    ensures { (result.left ≤ left) × (result.left ≡ (if eqb result.first 0 then 0 else left)) × (result.tally ≡ t) }
-{
-    let begin = skip(s, from);
-    let n = number(s, begin);
-    let lines = line_ends(s, before.at, begin);
-    Reached {
-        at: n.at,
-        first: n.size,
-        left: still_left(n.size, left),
-        line: std::num::wrapping_add_usize(before.line, lines),
-        tally: t,
+    // The size whose digits start at the place.
+    fn digits(&mut self) -> u64
+        ensures { self.old.at ≤ self.new.at }
+    {
+        let bytes = self.bytes;
+        let mut size: u64 = 0;
+        for i in self.at..bytes.len() {
+            match digit(bytes[i]) {
+                Some(d) => size = longer(size, d),
+                None => return size,
+            }
+            self.at = i + 1;
+        }
+        size
+    }
+
+    // The size of the next number; 0 where there is none.
+    // No Option: a number that is not there is read as 0, and the case then differs.
+    pub fn size(&mut self) -> u64
+        ensures { self.old.at ≤ self.new.at }
+    {
+        self.sign();
+        self.digits()
+    }
+
+    // The next number as a length; what is more than the most is cut.
+    pub fn length(&mut self, most: usize) -> usize
+        ensures forward { self.old.at ≤ self.new.at }
+        ensures most { result ≤ most }
+    {
+        let size = self.size();
+        if size > most as u64 {
+            most
+        } else {
+            size as usize
+        }
+    }
+
+    // So many bytes behind the next one, as far as there are; the place goes behind them all.
+    pub fn bytes_behind(&mut self, n: usize) -> &'a [u8] {
+        let bytes = self.bytes;
+        let from = self.at.wrapping_add(1).min(bytes.len());
+        let end = from + n.min(bytes.len() - from);
+        self.at = end;
+        &bytes[from..end]
+    }
+
+    // Fills an array with the next numbers.
+    pub fn read<T: Item>(&mut self, out: &mut [T])
+        ensures { self.old.at ≤ self.new.at }
+    {
+        for x in out {
+            *x = T::read(self);
+        }
+    }
+
+    // The next numbers are expected in an array.
+    pub fn expect_items<T: Item>(&mut self, a: &[T]) -> Option<Difference>
+        ensures { self.old.at ≤ self.new.at }
+    {
+        let mut d = None;
+        for i in 0..a.len() {
+            let want = T::read(self);
+            d = d.or(difference::expect_at(T::PART, i, want, a[i]));
+        }
+        d
+    }
+
+    // The next runs, each given by its length, at least 1, and its value, are expected in an array.
+    pub fn expect_runs(&mut self, a: &[i32]) -> Option<Difference>
+        ensures { self.old.at ≤ self.new.at }
+    {
+        let mut d = None;
+        let mut left: u64 = 0;
+        let mut value: i32 = 0;
+        for i in 0..a.len() {
+            if left == 0 {
+                left = self.size().max(1);
+                value = i32::read(self);
+            }
+            left -= 1;
+            d = d.or(difference::expect_at(Part::Value, i, value, a[i]));
+        }
+        d
+    }
+
+    // The refusal and the count that are expected next.
+    pub fn expected(&mut self) -> Expected
+        ensures { self.old.at ≤ self.new.at }
+    {
+        let refusal = self.size();
+        let count = self.size();
+        Expected { refusal, count }
+    }
+
+    // Goes on to the next case, and counts the lines up to it; its first number, unless that is 0,
+    // as at the end of the input.
+    pub fn next_case(&mut self) -> Option<u64>
+        ensures { self.old.at ≤ self.new.at }
+    {
+        self.skip();
+        let lines = line_ends(self.bytes, self.counted, self.at);
+        self.line = self.line.wrapping_add(lines);
+        self.counted = self.at;
+        let first = self.size();
+        if first == 0 { None } else { Some(first) }
     }
 }
 
-// The first case of an input; at most 100,000 are run.
-pub fn first_case(s: &[u8]) -> Reached
-    ensures { (result.left ≡ (if eqb result.first 0 then 0 else 100000)) × (result.tally ≡ no_cases) }
+// Runs the cases of an input, each by its first number and what is behind that; returns what was
+// counted.
+pub fn run<F: Fn(&mut Input<'_>, u64) -> Option<Difference>>(
+    rt: &HostRuntime,
+    bytes: &[u8],
+    case: F,
+) -> Tally
+    requires { F.IsAlwaysCallable case }
+    ensures most { result.cases ≤ 100000 }
+    ensures failed { result.failed ≤ result.cases }
 {
-    let start = Reached {
-        at: 0,
-        first: 0,
-        left: 0,
-        line: 1,
-        tally: test_tally::none(),
-    };
-    reach(s, start, 0, 100000, test_tally::none())
-}
-
-// The case behind one that had an outcome, which is counted.
-pub fn next_case(rt: &HostRuntime, s: &[u8], c: Reached, o: Outcome) -> Reached
-    requires { 0 < c.left }
-    ensures { (result.left < c.left) × (result.tally ≡ counted c.tally o.difference) }
-{
-    let d = o.difference;
-    let before = c.tally;
-    let t = test_tally::lined(rt, before, c.line, d);
-    reach(s, c, o.at, c.left - 1, t)
+    let mut input = Input::new(bytes);
+    let mut cases = Cases::new(rt);
+    while cases.tally.cases < MOST {
+        let Some(first) = input.next_case() else {
+            break;
+        };
+        let d = case(&mut input, first);
+        cases.lined(input.line, d);
+    }
+    cases.tally
 }

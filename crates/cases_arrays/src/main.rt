@@ -6,20 +6,11 @@
 
 mod calls;
 mod filtered;
-mod written;
-
-use test_tally::Tally;
-
-fn all_cases(rt: &HostRuntime, set: &[u32]) -> Tally {
-    let a = calls::all_cases(rt, b"stream search: ", set);
-    let b = filtered::all_cases(rt, b"filter search: ", set);
-    test_tally::both(a, b)
-}
+mod room;
 
 fn main(rt: HostRuntime) {
-    let t = all_cases(
-        &rt,
-        &[3, 14, 0, 5, 9, 14, 0, 0, 1, 0, 1, 0, 0, 1, 2, 0, 1, 1, 1, 2],
-    );
-    test_tally::report(&rt, b"in all ", t);
+    let set = [3, 14, 0, 5, 9, 14, 0, 0, 1, 0, 1, 0, 0, 1, 2, 0, 1, 1, 1, 2];
+    let a = calls::all_cases(&rt, "stream search: ", &set);
+    let b = filtered::all_cases(&rt, "filter search: ", &set);
+    test_tally::report(&rt, "in all ", a.and(b));
 }

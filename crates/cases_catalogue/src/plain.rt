@@ -12,10 +12,8 @@ const MOST: usize = 4000000;
 fn count_up(list: &mut [u32]) -> bool
     ensures { length list.new ≡ length list.old }
 {
-    let mut i = list.len();
-    while i > 0 {
-        i -= 1;
-        let d = arrays::wide(list[i]);
+    for i in (0..list.len()).rev() {
+        let d = list[i] as usize;
         if d < i {
             list[i] = arrays::narrow(d + 1);
             return true;
@@ -35,28 +33,21 @@ fn is_clear(list: &[u32], i: usize) -> bool {
         return false;
     }
     let parent = i - d;
-    let mut k = parent + 1;
-    while k < i {
+    for k in parent + 1..i {
         let e = arrays::number(list, k);
-        if e == 0 {
+        if e == 0 || e > k - parent {
             return false;
         }
-        if e > k - parent {
-            return false;
-        }
-        k += 1;
     }
     true
 }
 
 // Whether no two links cross.
 fn is_uncrossed(list: &[u32]) -> bool {
-    let mut i = 0;
-    while i < list.len() {
+    for i in 0..list.len() {
         if !is_clear(list, i) {
             return false;
         }
-        i += 1;
     }
     true
 }
@@ -65,15 +56,13 @@ fn is_uncrossed(list: &[u32]) -> bool {
 pub(crate) fn next(list: &mut [u32]) -> bool
     ensures { length list.new ≡ length list.old }
 {
-    let mut left = MOST;
-    while left > 0 {
+    for _ in 0..MOST {
         if !count_up(list) {
             return false;
         }
         if is_uncrossed(list) {
             return true;
         }
-        left -= 1;
     }
     false
 }

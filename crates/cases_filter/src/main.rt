@@ -11,65 +11,49 @@
 mod made;
 mod worked;
 
-use test_tally::Tally;
+use test_tally::{Cases, Tally};
 
-// Cases with patterns of 2 to most + 2 values.
-fn random_cases(rt: &HostRuntime, group: &[u8], n: usize, most: usize) -> Tally {
-    let mut t = test_tally::none();
-    let mut i: usize = 0;
-    while i < n {
-        t = test_tally::numbered(rt, t, group, i, made::random_case(i, most));
-        i += 1;
-    }
-    test_tally::report(rt, group, t);
-    t
+// Cases whose shortest pattern has 2, 16, 17 and 18 values.
+fn all_shortest(rt: &HostRuntime, group: &str) -> Tally {
+    let mut a = Cases::new(rt);
+    a.all("shortest of 2 values: ", 300, |i| made::length_case(i, 2));
+    let mut b = Cases::new(rt);
+    b.all("shortest of 16 values: ", 300, |i| made::length_case(i, 16));
+    let mut c = Cases::new(rt);
+    c.all("shortest of 17 values: ", 300, |i| made::length_case(i, 17));
+    let mut d = Cases::new(rt);
+    d.all("shortest of 18 values: ", 300, |i| made::length_case(i, 18));
+    let t = a.tally.and(b.tally).and(c.tally).and(d.tally);
+    test_tally::report(rt, group, t)
 }
 
-// Cases whose shortest pattern has m values.
-fn shortest_patterns(rt: &HostRuntime, group: &[u8], n: usize, m: usize) -> Tally {
-    let mut t = test_tally::none();
-    let mut i: usize = 0;
-    while i < n {
-        t = test_tally::numbered(rt, t, group, i, made::length_case(i, m));
-        i += 1;
-    }
-    t
-}
-
-// Cases of 64 patterns of 2 to most + 2 values, in texts of so many values.
-fn large_sets(rt: &HostRuntime, group: &[u8], n: usize, values: usize, most: usize) -> Tally {
-    let mut t = test_tally::none();
-    let mut i: usize = 0;
-    while i < n {
-        t = test_tally::numbered(rt, t, group, i, made::large_case(i, values, most));
-        i += 1;
-    }
-    test_tally::report(rt, group, t);
-    t
-}
-
-fn all_shortest(rt: &HostRuntime) -> Tally {
-    let a = shortest_patterns(rt, b"shortest of 2 values: ", 300, 2);
-    let b = shortest_patterns(rt, b"shortest of 16 values: ", 300, 16);
-    let c = shortest_patterns(rt, b"shortest of 17 values: ", 300, 17);
-    let d = shortest_patterns(rt, b"shortest of 18 values: ", 300, 18);
-    test_tally::both(test_tally::both(a, b), test_tally::both(c, d))
-}
-
+// Cases with patterns of 2 to 8 and of 2 to 40 values, and of 64 patterns of 2 to 64 and of 2 to 4.
 fn main(rt: HostRuntime) {
-    let a = worked::all_cases(&rt, b"worked: ");
-    let b = random_cases(&rt, b"patterns of 2 to 8 values: ", 10000, 6);
-    let c = random_cases(&rt, b"patterns of 2 to 40 values: ", 2000, 38);
-    let d = all_shortest(&rt);
-    test_tally::report(&rt, b"shortest of 2, 16, 17 and 18 values: ", d);
-    let e = large_sets(&rt, b"sets of 64 patterns: ", 50, 150, 62);
-    let f = large_sets(&rt, b"sets of 64 patterns, many equal: ", 50, 16, 2);
-    test_tally::report(
+    let a = worked::all_cases(&rt, "worked: ");
+    let b = test_tally::run(
         &rt,
-        b"in all ",
-        test_tally::both(
-            test_tally::both(a, b),
-            test_tally::both(test_tally::both(c, d), test_tally::both(e, f)),
-        ),
+        "patterns of 2 to 8 values: ",
+        10000,
+        |i| made::random_case(i, 6),
     );
+    let c = test_tally::run(
+        &rt,
+        "patterns of 2 to 40 values: ",
+        2000,
+        |i| made::random_case(i, 38),
+    );
+    let d = all_shortest(&rt, "shortest of 2, 16, 17 and 18 values: ");
+    let e = test_tally::run(
+        &rt,
+        "sets of 64 patterns: ",
+        50,
+        |i| made::large_case(i, 150, 62),
+    );
+    let f = test_tally::run(
+        &rt,
+        "sets of 64 patterns, many equal: ",
+        50,
+        |i| made::large_case(i, 16, 2),
+    );
+    test_tally::report(&rt, "in all ", a.and(b).and(c).and(d).and(e).and(f));
 }

@@ -3,47 +3,34 @@ use crate::made;
 use test_differences::difference;
 use test_differences::difference::{Difference, Part};
 use test_inputs::arrays;
-use test_tally::Tally;
+use test_tally::{Cases, Tally};
 
-// The plain search is expected to have one hit, at the last place given; the list is put to an
-// array that is lent.
-fn expect_hit_in(set: &[u32], text: &[i32], place: usize, want: &mut [u32]) -> Difference {
-    let words = test_plain::hits_between(set, text, 0, text.len(), want);
-    let count = difference::expect_size(Part::Hits, 1, words / 2);
-    difference::first(
-        count,
-        difference::expect_word(
-            0,
-            arrays::narrow(place),
-            arrays::narrow(arrays::number(want, 0)),
-        ),
-    )
-}
-
-fn expect_hit(set: &[u32], text: &[i32], place: usize) -> Difference {
+// The plain search is expected to have one hit, at the last place given.
+fn expect_hit(set: &[u32], text: &[i32], place: usize) -> Option<Difference> {
     let mut want = [0u32; 8];
-    expect_hit_in(set, text, place, &mut want)
-}
-
-fn one_hit_in(pattern: &[i32], text: &[i32], place: usize, set: &mut [u32]) -> Difference {
-    test_sets::begin(set);
-    test_sets::add(set, pattern, pattern.len());
-    let hit = expect_hit(set, text, place);
-    difference::first(hit, made::expect_plain_over(set, text, text.len()))
+    let words = test_plain::hits_between(set, text, 0, text.len(), &mut want);
+    difference::expect(Part::Hits, 1, words / 2).or(difference::expect_at(
+        Part::Word,
+        0,
+        place,
+        arrays::number(&want, 0),
+    ))
 }
 
 // The plain search, and so the search, is expected to have one hit of the one pattern, at the last
 // place given.
-fn one_hit(pattern: &[i32], text: &[i32], place: usize) -> Difference {
+fn one_hit(pattern: &[i32], text: &[i32], place: usize) -> Option<Difference> {
     let mut set = [0u32; 32];
-    one_hit_in(pattern, text, place, &mut set)
+    test_sets::begin(&mut set);
+    test_sets::add(&mut set, pattern, pattern.len());
+    expect_hit(&set, text, place).or(made::expect_plain_over(&set, text, text.len()))
 }
 
-fn starred_case() -> Difference {
+fn starred_case() -> Option<Difference> {
     one_hit(&[1, 4, 3, 4, 1], &[6, 1, 5, 3, 6, 5, 7, 4, 2, 3, 1], 7)
 }
 
-fn other_starred_case() -> Difference {
+fn other_starred_case() -> Option<Difference> {
     one_hit(
         &[6, 2, 5, 1, 4, 3, 7],
         &[41, 36, 15, 8, 41, 23, 28, 16, 26, 22, 56, 29, 12, 61],
@@ -51,70 +38,46 @@ fn other_starred_case() -> Difference {
     )
 }
 
-fn flat_in(n: usize, a: usize, b: usize, flat: &[i32], set: &mut [u32]) -> Difference {
-    test_sets::begin(set);
-    test_sets::add(set, flat, a);
-    test_sets::add(set, flat, b);
-    test_sets::add(set, flat, a);
-    test_sets::add(set, flat, 20);
-    made::expect_plain_over(set, flat, n)
-}
-
 // A flat text of n values, and flat patterns of a, b, a and 20 values.
-fn flat_case(n: usize, a: usize, b: usize) -> Difference {
+fn flat_case(n: usize, a: usize, b: usize) -> Option<Difference> {
     let mut set = [0u32; 128];
-    flat_in(n, a, b, &[-5; 60], &mut set)
-}
-
-fn flat_cases(rt: &HostRuntime, group: &[u8]) -> Tally {
-    let mut t = test_tally::none();
-    let mut n: usize = 0;
-    while n < 41 {
-        let first = flat_case(n, 5, 2);
-        let second = flat_case(n, 30, 21);
-        t = test_tally::numbered(rt, t, group, n, difference::first(first, second));
-        n += 1;
-    }
-    t
-}
-
-// A set is expected to be refused under the number, in arrays of so many words and values.
-fn refused_in(set: &[u32], number: u64, words: usize, values: usize) -> Difference {
-    let c = test_filter::expect_refused(set, &[3, 1, 2], number, words, values);
-    let d = c.difference;
-    d
+    let flat = [-5; 60];
+    test_sets::begin(&mut set);
+    test_sets::add(&mut set, &flat, a);
+    test_sets::add(&mut set, &flat, b);
+    test_sets::add(&mut set, &flat, a);
+    test_sets::add(&mut set, &flat, 20);
+    made::expect_plain_over(&set, &flat, n)
 }
 
 // A set is expected to be refused under the number, whatever the arrays.
-fn refused_set(set: &[u32], number: u64) -> Difference {
-    let a = refused_in(set, number, 0, 0);
-    let b = refused_in(set, number, 40, 20);
-    let c = refused_in(set, number, 40, 0);
-    difference::first(a, difference::first(b, c))
+fn refused_set(set: &[u32], number: u64) -> Option<Difference> {
+    let text = [3, 1, 2];
+    test_filter::expect_refused(set, &text, number, 0, 0)
+        .or(test_filter::expect_refused(set, &text, number, 40, 20))
+        .or(test_filter::expect_refused(set, &text, number, 40, 0))
 }
 
 // The empty set is refused under 1, what is no set under 5, and a set that holds a pattern of one
 // value under 15.
-fn refusals(rt: &HostRuntime) -> Difference {
-    let a = refused_set(&[0, 0, 0, 8], 1);
-    let b = refused_set(&[0, 1, 0], 5);
-    let c = refused_set(&[1, 2, 0, 2, 0], 5);
-    let d = refused_set(&[4294967295, 4294967295, 0], 5);
-    let e = refused_set(&[1, 1, 0, 1, 0], 15);
-    let f = refused_set(&[2, 3, 0, 2, 3, 0, 1, 0], 15);
-    let others = difference::first(difference::first(a, b), difference::first(c, d));
-    difference::first(others, difference::first(e, f))
+fn refusals() -> Option<Difference> {
+    refused_set(&[0, 0, 0, 8], 1)
+        .or(refused_set(&[0, 1, 0], 5))
+        .or(refused_set(&[1, 2, 0, 2, 0], 5))
+        .or(refused_set(&[4294967295, 4294967295, 0], 5))
+        .or(refused_set(&[1, 1, 0, 1, 0], 15))
+        .or(refused_set(&[2, 3, 0, 2, 3, 0, 1, 0], 15))
 }
 
-pub(crate) fn all_cases(rt: &HostRuntime, group: &[u8]) -> Tally {
-    let t = test_tally::named(
-        rt,
-        flat_cases(rt, b"flat texts: "),
-        b"first starred text",
-        starred_case(),
+pub(crate) fn all_cases(rt: &HostRuntime, group: &str) -> Tally {
+    let mut cases = Cases::new(rt);
+    cases.all(
+        "flat texts: ",
+        41,
+        |n| flat_case(n, 5, 2).or(flat_case(n, 30, 21)),
     );
-    let u = test_tally::named(rt, t, b"second starred text", other_starred_case());
-    let v = test_tally::named(rt, u, b"refused sets", refusals(rt));
-    test_tally::report(rt, group, v);
-    v
+    cases.named("first starred text", starred_case());
+    cases.named("second starred text", other_starred_case());
+    cases.named("refused sets", refusals());
+    test_tally::report(rt, group, cases.tally)
 }

@@ -2,34 +2,28 @@
 ghost use Rattle.std.specs.Prelude.{◌≤◌};
 
 use test_differences::difference::Difference;
-use test_inputs::{arrays, texts};
+use test_inputs::texts;
 
-// The search over the first n values of a text is expected to agree with the plain search.
-fn expect_plain(set: &[u32], text: &[i32], n: usize) -> Difference {
-    let c = test_filter::expect_plain(set, text, n);
-    let d = c.difference;
-    d
+// The search over a text is expected to agree with the plain search.
+fn expect_plain(set: &[u32], text: &[i32]) -> Option<Difference> {
+    test_filter::expect_plain(set, text, text.len()).difference
 }
 
 // ---- scattered gaps
 
 // A text of up to 80 values, of which one of 2 to 31 is a gap, and 1 to 6 patterns of 2 to 20
-// values, in arrays that are lent.
-fn scattered_in(number: usize, set: &mut [u32], text: &mut [i32]) -> Difference {
+// values.
+pub(crate) fn scattered_case(number: usize) -> Option<Difference> {
+    let mut set = [0u32; 320];
+    let mut text = [0i32; 80];
     let s = texts::next(texts::next(number));
     let n = texts::pick(s, 80);
     let kind = texts::pick(number, 7);
-    let t = texts::fill(text, n, kind, s);
-    let u = texts::scatter_gaps(text, n, texts::pick(t, 29) + 2, t);
+    let t = texts::fill(&mut text, n, kind, s);
+    let u = texts::scatter_gaps(&mut text, n, texts::pick(t, 29) + 2, t);
     let most = texts::pick(u, 1) * 12 + 6;
-    test_sets::make(set, text, kind, texts::pick(u, 5) + 1, most, u);
-    expect_plain(set, text, n)
-}
-
-pub(crate) fn scattered_case(number: usize) -> Difference {
-    let mut set = [0u32; 320];
-    let mut text = [0i32; 80];
-    scattered_in(number, &mut set, &mut text)
+    test_sets::make(&mut set, &text, kind, texts::pick(u, 5) + 1, most, u);
+    expect_plain(&set, &text[..n])
 }
 
 // ---- gaps at a distance
@@ -62,39 +56,34 @@ fn first_gap(number: usize) -> usize
     }
 }
 
-// Adds the pattern of the window of n values that begins at a place.
-fn add_window(set: &mut [u32], text: &[i32], from: usize, n: usize) {
-    let a = arrays::smaller(from, text.len());
-    test_sets::add(set, &text[a..], n);
-}
-
 // The set of the windows of m, one more and again m values that begin at places.
 fn make_set(set: &mut [u32], text: &[i32], m: usize, first: usize, second: usize) {
     test_sets::begin(set);
-    add_window(set, text, first, m);
-    add_window(set, text, second, arrays::smaller(m, 255) + 1);
-    add_window(set, text, 0, m);
-}
-
-fn apart_in(number: usize, set: &mut [u32], text: &mut [i32]) -> Difference {
-    let n = text.len();
-    let s = texts::fill(text, n, kind_of(number / 96), number);
-    let every = texts::gap_distance(number);
-    let row = texts::pick(s, 2) + 1;
-    let from = first_gap(texts::next(s));
-    let first = arrays::smaller(from + row, 74);
-    make_set(set, text, texts::pattern_length(number / 16), first, 40);
-    texts::put_gaps(text, n, from, every, row);
-    expect_plain(set, text, n)
+    test_sets::add_window(set, text, first, m);
+    test_sets::add_window(set, text, second, m.min(255) + 1);
+    test_sets::add_window(set, text, 0, m);
 }
 
 // A text of 330 values with one, two or three gaps in a row at every distance that the number
 // gives, and three patterns of it, as it was before the gaps, the shortest of 2, 16, 17, 18, 255 or
 // 256 values. The array of 2,048 words takes all three patterns at all 330 places.
-pub(crate) fn apart_case(number: usize) -> Difference {
+pub(crate) fn apart_case(number: usize) -> Option<Difference> {
     let mut set = [0u32; 1024];
     let mut text = [0i32; 330];
-    apart_in(number, &mut set, &mut text)
+    let s = texts::fill(&mut text, 330, kind_of(number / 96), number);
+    let every = texts::gap_distance(number);
+    let row = texts::pick(s, 2) + 1;
+    let from = first_gap(texts::next(s));
+    let first = (from + row).min(74);
+    make_set(
+        &mut set,
+        &text,
+        texts::pattern_length(number / 16),
+        first,
+        40,
+    );
+    texts::put_gaps(&mut text, 330, from, every, row);
+    expect_plain(&set, &text)
 }
 
 // ---- one gap about a window
@@ -112,21 +101,16 @@ fn back_of(number: usize, m: usize) -> usize
     }
 }
 
-fn about_in(number: usize, set: &mut [u32], text: &mut [i32]) -> Difference {
-    let n = text.len();
-    let m = texts::pattern_length(number / 18);
-    let s = texts::fill(text, n, 5, number);
-    let end = 450 + texts::pick(s, 149);
-    test_sets::begin(set);
-    add_window(set, text, end - m, m);
-    texts::put_gaps(text, n, end - back_of(number, m), 1000, 1);
-    expect_plain(set, text, n)
-}
-
 // A text of 600 values of many levels, a pattern of 2, 16, 17, 18, 255 or 256 values that end
 // before a place behind the seventh block, and one gap before that place.
-pub(crate) fn about_case(number: usize) -> Difference {
+pub(crate) fn about_case(number: usize) -> Option<Difference> {
     let mut set = [0u32; 320];
     let mut text = [0i32; 600];
-    about_in(number, &mut set, &mut text)
+    let m = texts::pattern_length(number / 18);
+    let s = texts::fill(&mut text, 600, 5, number);
+    let end = 450 + texts::pick(s, 149);
+    test_sets::begin(&mut set);
+    test_sets::add_window(&mut set, &text, end - m, m);
+    texts::put_gaps(&mut text, 600, end - back_of(number, m), 1000, 1);
+    expect_plain(&set, &text)
 }

@@ -8,58 +8,44 @@ mod made;
 mod run;
 mod worked;
 
-use test_tally::Tally;
+use made::Way;
 
-// Cases with patterns of least to least + most values, over texts with scattered gaps or without.
-fn random_cases(
-    rt: &HostRuntime,
-    group: &[u8],
-    n: usize,
-    least: usize,
-    most: usize,
-    gaps: bool,
-) -> Tally {
-    let mut t = test_tally::none();
-    let mut i: usize = 0;
-    while i < n {
-        t = test_tally::numbered(rt, t, group, i, made::random_case(i, least, most, gaps));
-        i += 1;
-    }
-    test_tally::report(rt, group, t);
-    t
-}
-
-// Texts with gaps at a distance from each other.
-fn gaps_apart(rt: &HostRuntime, group: &[u8], n: usize) -> Tally {
-    let mut t = test_tally::none();
-    let mut i: usize = 0;
-    while i < n {
-        t = test_tally::numbered(rt, t, group, i, made::apart_case(i));
-        i += 1;
-    }
-    test_tally::report(rt, group, t);
-    t
-}
-
+// Texts with and without scattered gaps, and with gaps at a distance from each other.
 fn main(rt: HostRuntime) {
-    let a = worked::all_cases(&rt, b"worked: ");
-    let b = random_cases(&rt, b"patterns of 2 to 8 values: ", 4000, 2, 6, false);
-    let c = random_cases(&rt, b"patterns of 9 to 40 values: ", 1500, 9, 31, false);
-    let d = random_cases(
+    let short = Way {
+        least: 2,
+        most: 6,
+        gaps: false,
+    };
+    let long = Way {
+        least: 9,
+        most: 31,
+        gaps: false,
+    };
+    let gaps = Way {
+        least: 2,
+        most: 10,
+        gaps: true,
+    };
+    let a = worked::all_cases(&rt, "worked: ");
+    let b = test_tally::run(
         &rt,
-        b"patterns of 2 to 12 values, texts with gaps: ",
+        "patterns of 2 to 8 values: ",
         4000,
-        2,
-        10,
-        true,
+        |i| made::random_case(i, short),
     );
-    let e = gaps_apart(&rt, b"gaps at distances: ", 192);
-    test_tally::report(
+    let c = test_tally::run(
         &rt,
-        b"in all ",
-        test_tally::both(
-            test_tally::both(a, b),
-            test_tally::both(c, test_tally::both(d, e)),
-        ),
+        "patterns of 9 to 40 values: ",
+        1500,
+        |i| made::random_case(i, long),
     );
+    let d = test_tally::run(
+        &rt,
+        "patterns of 2 to 12 values, texts with gaps: ",
+        4000,
+        |i| made::random_case(i, gaps),
+    );
+    let e = test_tally::run(&rt, "gaps at distances: ", 192, made::apart_case);
+    test_tally::report(&rt, "in all ", a.and(b).and(c).and(d).and(e));
 }

@@ -18,35 +18,10 @@ mod inputs;
 mod reading;
 mod searching;
 
-use case_input::Outcome;
-
-// The case that starts at a place of the input; the bytes are put to the lent array.
-fn case(s: &[u8], pieces: u64, at: usize, bytes: &mut [u8]) -> Outcome {
-    let filled = inputs::expand(s, at, pieces, bytes);
-    let n = case_input::small(filled.to as u64, bytes.len());
-    let room = case_input::number(s, filled.at);
-    reading::input_case(s, room.at, case_input::small(room.size, 8192), &bytes[..n])
-}
-
-fn case_in(s: &[u8], pieces: u64, at: usize) -> Outcome {
-    let mut bytes = [0u8; 65600];
-    case(s, pieces, at, &mut bytes)
-}
-
-// Runs the cases from the start of the input, and prints how many there are and how many of them
-// failed.
-fn run(rt: &HostRuntime, s: &[u8]) {
-    let mut c = case_input::first_case(s);
-    while c.left > 0 {
-        c = case_input::next_case(rt, s, c, case_in(s, c.first, c.at));
-    }
-    let t = c.tally;
-    test_tally::report_as(rt, b"", t, b" inputs, ");
-}
-
-// Runs the cases of standard input.
+// Runs the cases of standard input, and prints how many there are and how many of them failed.
 fn main(rt: HostRuntime) {
     let mut buf = [0u8; 327680];
     let n = printing::read_full(&rt, &mut buf);
-    run(&rt, &buf[..n]);
+    let t = case_input::run(&rt, &buf[..n], reading::case);
+    test_tally::report_as(&rt, "", t, " inputs, ");
 }

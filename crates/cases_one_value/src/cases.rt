@@ -1,47 +1,67 @@
 // Cases: a stored set, and what the entries answer over it.
 use crate::stored::Stored;
 use crate::{refused, searched, stored};
-use answers::SetSize;
+use answers::{Refusal, SetSize};
 use test_differences::difference::Difference;
 use test_differences::{difference, expect};
 use test_inputs::{arrays, texts};
+use test_states::Search;
 
 // ---- as it is stored
 
-// The answer is expected to be the refusal of this number, or else the sizes that the array tells.
-fn expect_size(a: SetSize, refusal: u64, set: &[u32]) -> Difference {
-    let k = arrays::number(set, 0) as u64;
-    let n = arrays::number(set, 1) as u64;
-    expect::set_size(a, refusal, k, n)
+// The answer is expected to be the refusal of this number, if there is one, or else the sizes that
+// the array tells.
+fn expect_size(
+    a: Result<SetSize, Refusal>,
+    refusal: Option<u64>,
+    set: &[u32],
+) -> Option<Difference> {
+    let sizes = SetSize {
+        patterns: arrays::number(set, 0),
+        distances: arrays::number(set, 1),
+    };
+    let want = match refusal {
+        Some(number) => Err(number),
+        None => Ok(sizes),
+    };
+    expect::answered(want, a)
 }
 
 // The refusal of one pattern more, if it is refused for nothing else than the full set.
-fn if_full(s: Stored, refusal: u64) -> u64 {
-    if s.patterns < 64 { refusal } else { 6 }
+fn if_full(s: Stored, refusal: Option<u64>) -> Option<u64> {
+    if s.patterns < 64 { refusal } else { Some(6) }
 }
 
 // A pattern of one value is not added: 15, or 6 where the set is full; the set is as it was.
-fn expect_refused(set: &mut [u32], s: Stored) -> Difference {
+fn expect_refused(set: &mut [u32], s: Stored) -> Option<Difference> {
     let mut want = [0u32; 480];
     arrays::copy(set, &mut want);
     let a = finder::add_pattern(set, &[7]);
-    let refused = expect_size(a, if_full(s, 15), set);
-    difference::first(refused, difference::expect_words(&want, set))
+    expect_size(a, if_full(s, Some(15)), set).or(difference::expect_words(&want, set))
 }
 
 // The set is good, and takes a pattern of two values, unless it is full.
-fn expect_added(set: &mut [u32], s: Stored) -> Difference {
-    let good = expect_size(finder::check_set(set), 0, set);
+fn expect_added(set: &mut [u32], s: Stored) -> Option<Difference> {
+    let good = expect_size(finder::check_set(set), None, set);
     let a = finder::add_pattern(set, &[7, 5]);
-    difference::first(good, expect_size(a, if_full(s, 0), set))
+    good.or(expect_size(a, if_full(s, None), set))
 }
 
 // The set is good and may not be searched.
-fn expect_stored(s: Stored, text: &[i32], set: &mut [u32], automaton: &[u32]) -> Difference {
+fn expect_stored(
+    s: Stored,
+    text: &[i32],
+    set: &mut [u32],
+    automaton: &[u32],
+) -> Option<Difference> {
     stored::write(set, text, s);
-    let calls = refused::expect_all(set, automaton, text, 15);
-    let one = expect_refused(set, s);
-    difference::first(calls, difference::first(one, expect_added(set, s)))
+    let search = Search {
+        set,
+        automaton,
+        text,
+    };
+    let calls = refused::expect_all(search, 15);
+    calls.or(expect_refused(set, s)).or(expect_added(set, s))
 }
 
 // ---- with patterns withdrawn
@@ -67,21 +87,38 @@ fn second_number(s: Stored) -> usize {
 }
 
 // The set may be searched, or nothing is left of it.
-fn expect_left(text: &[i32], set: &[u32], automaton: &mut [u32]) -> Difference {
-    if arrays::number(set, 0) == 0 {
-        return refused::expect_all(set, automaton, text, 1);
+fn expect_left(text: &[i32], set: &[u32], automaton: &mut [u32]) -> Option<Difference> {
+    if arrays::number(set, 0) > 0 {
+        let _ = finder::build_automaton(set, automaton);
     }
-    finder::build_automaton(set, automaton);
-    searched::expect_all(set, text, automaton)
+    let search = Search {
+        set,
+        automaton,
+        text,
+    };
+    if arrays::number(set, 0) == 0 {
+        return refused::expect_all(search, 1);
+    }
+    searched::expect_all(search)
 }
 
 // One pattern withdrawn, and then the last one of one value.
-fn expect_withdrawn(s: Stored, text: &[i32], set: &mut [u32], automaton: &mut [u32]) -> Difference {
+fn expect_withdrawn(
+    s: Stored,
+    text: &[i32],
+    set: &mut [u32],
+    automaton: &mut [u32],
+) -> Option<Difference> {
     stored::write(set, text, s);
-    finder::withdraw_pattern(set, first_number(s));
-    let still = refused::expect_all(set, automaton, text, 15);
-    finder::withdraw_pattern(set, second_number(s));
-    difference::first(still, expect_left(text, set, automaton))
+    let _ = finder::withdraw_pattern(set, first_number(s));
+    let search = Search {
+        set,
+        automaton,
+        text,
+    };
+    let still = refused::expect_all(search, 15);
+    let _ = finder::withdraw_pattern(set, second_number(s));
+    still.or(expect_left(text, set, automaton))
 }
 
 // ---- all
@@ -90,15 +127,9 @@ fn expect_withdrawn(s: Stored, text: &[i32], set: &mut [u32], automaton: &mut [u
 // of one value.
 fn build_without(s: Stored, text: &[i32], set: &mut [u32], automaton: &mut [u32]) {
     stored::write(set, text, s);
-    finder::withdraw_pattern(set, first_number(s));
-    finder::withdraw_pattern(set, second_number(s));
-    finder::build_automaton(set, automaton);
-}
-
-fn case_in(s: Stored, text: &[i32], set: &mut [u32], automaton: &mut [u32]) -> Difference {
-    build_without(s, text, set, automaton);
-    let kept = expect_stored(s, text, set, automaton);
-    difference::first(kept, expect_withdrawn(s, text, set, automaton))
+    let _ = finder::withdraw_pattern(set, first_number(s));
+    let _ = finder::withdraw_pattern(set, second_number(s));
+    let _ = finder::build_automaton(set, automaton);
 }
 
 // A text of 40 values without a gap.
@@ -109,10 +140,12 @@ fn fill(text: &mut [i32], seed: usize) {
 }
 
 // A case: the arrays have room for 64 patterns of 6 values.
-pub(crate) fn case(s: Stored) -> Difference {
+pub(crate) fn case(s: Stored) -> Option<Difference> {
     let mut text = [0i32; 40];
     let mut set = [arrays::BEFORE; 480];
     let mut automaton = [0u32; 6400];
     fill(&mut text, s.seed);
-    case_in(s, &text, &mut set, &mut automaton)
+    build_without(s, &text, &mut set, &mut automaton);
+    let kept = expect_stored(s, &text, &mut set, &automaton);
+    kept.or(expect_withdrawn(s, &text, &mut set, &mut automaton))
 }

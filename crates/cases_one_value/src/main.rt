@@ -13,7 +13,6 @@ mod stored;
 
 use stored::Stored;
 use test_inputs::texts;
-use test_tally::Tally;
 
 // 1 to 8 patterns, of which one has one value: eight numbers in a row go through its places.
 fn small_set(number: usize) -> Stored {
@@ -51,29 +50,14 @@ fn two_of_one(number: usize) -> Stored {
     }
 }
 
-fn set_of(way: usize, number: usize) -> Stored {
-    match way {
-        0 => small_set(number),
-        1 => full_set(number),
-        _ => two_of_one(number),
-    }
-}
-
-// So many sets of a way to make them.
-fn sets(rt: &HostRuntime, group: &[u8], n: usize, way: usize) -> Tally {
-    let mut t = test_tally::none();
-    let mut i: usize = 0;
-    while i < n {
-        t = test_tally::numbered(rt, t, group, i, cases::case(set_of(way, i)));
-        i += 1;
-    }
-    test_tally::report(rt, group, t);
-    t
-}
-
 fn main(rt: HostRuntime) {
-    let a = sets(&rt, b"1 to 8 patterns: ", 384, 0);
-    let b = sets(&rt, b"64 patterns: ", 128, 1);
-    let c = sets(&rt, b"two patterns of one value: ", 168, 2);
-    test_tally::report(&rt, b"in all ", test_tally::both(a, test_tally::both(b, c)));
+    let a = test_tally::run(&rt, "1 to 8 patterns: ", 384, |i| cases::case(small_set(i)));
+    let b = test_tally::run(&rt, "64 patterns: ", 128, |i| cases::case(full_set(i)));
+    let c = test_tally::run(
+        &rt,
+        "two patterns of one value: ",
+        168,
+        |i| cases::case(two_of_one(i)),
+    );
+    test_tally::report(&rt, "in all ", a.and(b).and(c));
 }

@@ -20,42 +20,35 @@ fn length_of(s: Stored, j: usize) -> usize
     if j == s.one || j == s.other {
         return 1;
     }
-    texts::pick(texts::next(std::num::wrapping_add_usize(s.seed, j)), 4) + 2
+    texts::pick(texts::next(s.seed.wrapping_add(j)), 4) + 2
 }
 
 // Where the window of pattern j begins.
 fn place_of(s: Stored, j: usize) -> usize
     ensures { result ≤ 34 }
 {
-    texts::pick(
-        texts::next(texts::next(std::num::wrapping_add_usize(s.seed, j))),
-        34,
-    )
+    texts::pick(texts::next(texts::next(s.seed.wrapping_add(j))), 34)
 }
 
 // Puts the distances of a window of m values to an array, from a place on.
 fn put_window(out: &mut [u32], at: usize, text: &[i32], from: usize, m: usize)
     requires { (at ≤ 1000) × (from ≤ 1000) × (m ≤ 6) }
 {
-    let mut i = 0;
-    while i < m {
+    for i in 0..m {
         arrays::put(out, at + i, test_plain::distance(text, from, from + i));
-        i += 1;
     }
 }
 
 // Writes the words of the set.
 pub(crate) fn write(out: &mut [u32], text: &[i32], s: Stored) {
-    let k = arrays::smaller(s.patterns, 64);
+    let k = s.patterns.min(64);
     let mut before = 0;
-    let mut j = 0;
     arrays::put(out, 0, k);
-    while j < k {
+    for j in 0..k {
         let m = length_of(s, j);
         arrays::put(out, 2 + j, before);
         put_window(out, 3 + k + before, text, place_of(s, j), m);
         before += m;
-        j += 1;
     }
     arrays::put(out, 2 + k, before);
     arrays::put(out, 1, before);

@@ -1,122 +1,115 @@
 // Cases of the entries on one pattern. A case is read and run in arrays that are cut to their
 // lengths already.
-use answers::{Encoded, Written};
-use case_input::Outcome;
+use answers::Refusal;
+use case_input::{Expected, Input, Item};
 use test_differences::difference::{Difference, Part};
 use test_differences::{difference, expect};
 
+// The next array of the input is expected behind an answer.
+fn expect_array<T: Item>(
+    input: &mut Input<'_>,
+    want: Expected,
+    a: Result<usize, Refusal>,
+    out: &[T],
+) -> Option<Difference> {
+    expect::answered(want.answer(want.count as usize), a).or(input.expect_items(out))
+}
+
 // The values are read, and their distances are compared.
-fn distances_case(s: &[u8], at: usize, list: &mut [i32], out: &mut [u32]) -> Outcome {
-    let p = case_input::values(s, at, list);
-    let want = case_input::read_expected(s, p);
+// Twin of `least_case` but for the entry that each is about.
+fn distances_case(input: &mut Input<'_>, list: &mut [i32], out: &mut [u32]) -> Option<Difference> {
+    input.read(list);
+    let want = input.expected();
     let a = finder::distances(list, out);
-    case_input::expect_written(s, want, a, out)
+    expect_array(input, want, a, out)
 }
 
 // The distances are read, and their least values are compared.
-fn least_case(s: &[u8], at: usize, list: &mut [u32], out: &mut [i32]) -> Outcome {
-    let p = case_input::words(s, at, list);
-    let want = case_input::read_expected(s, p);
+fn least_case(input: &mut Input<'_>, list: &mut [u32], out: &mut [i32]) -> Option<Difference> {
+    input.read(list);
+    let want = input.expected();
     let a = finder::least_realization(list, out);
-    let o = case_input::expect_values(s, want.at, out);
-    case_input::after(expect::written(a, want.refusal, want.count), o)
+    expect_array(input, want, a, out)
+}
+
+// The next list, held against whether the list is expected to be the last one, and the words
+// written.
+fn expect_next(want: Expected, last: u64, a: Result<Option<usize>, Refusal>) -> Option<Difference> {
+    match a {
+        Ok(next) => difference::expect(Part::Refusal, want.refusal, 0)
+            .or(difference::expect(Part::Last, last, next.is_none() as u64))
+            .or(difference::expect(Part::Written, want.count, next.unwrap_or(0) as u64)),
+        Err(_) => expect::refused(want.refusal, a),
+    }
 }
 
 // The distances are read, and the next list is compared.
-fn next_case(s: &[u8], at: usize, list: &mut [u32], out: &mut [u32]) -> Outcome {
-    let p = case_input::words(s, at, list);
-    let want = case_input::read_expected(s, p);
-    let last = case_input::number(s, want.at);
+fn next_case(input: &mut Input<'_>, list: &mut [u32], out: &mut [u32]) -> Option<Difference> {
+    input.read(list);
+    let want = input.expected();
+    let last = input.size();
     let a = finder::next_list(list, out);
-    let o = case_input::expect_words(s, last.at, out);
-    case_input::after(expect::next_list(a, want.refusal, last.size, want.count), o)
+    expect_next(want, last, a).or(input.expect_items(out))
 }
 
-// Global parents for entry 3, failure lengths for 4.
-fn words_of(entry: u64, ds: &[u32], out: &mut [u32]) -> Written {
-    if entry == 3 {
-        return finder::global_parents(ds, out);
-    }
-    finder::failure_lengths(ds, out)
-}
-
-// The distances are read, and the words made from them are compared.
-fn words_case(s: &[u8], entry: u64, at: usize, list: &mut [u32], out: &mut [u32]) -> Outcome {
-    if entry == 10 {
-        return next_case(s, at, list, out);
-    }
-    let p = case_input::words(s, at, list);
-    let want = case_input::read_expected(s, p);
-    let a = words_of(entry, list, out);
-    case_input::expect_written(s, want, a, out)
+// The distances are read, and the words made from them are compared: global parents for entry 3,
+// failure lengths for 4.
+fn words_case(
+    input: &mut Input<'_>,
+    entry: u64,
+    list: &mut [u32],
+    out: &mut [u32],
+) -> Option<Difference> {
+    input.read(list);
+    let want = input.expected();
+    let a = if entry == 3 {
+        finder::global_parents(list, out)
+    } else {
+        finder::failure_lengths(list, out)
+    };
+    expect_array(input, want, a, out)
 }
 
 // A case of an entry on a list, with room for the result.
-pub(crate) fn list_case(
-    s: &[u8],
-    entry: u64,
-    at: usize,
-    list: &mut [u32],
-    values: &mut [i32],
-    out: &mut [u32],
-) -> Outcome {
-    let n = case_input::number(s, at);
-    let room = case_input::number(s, n.at);
-    let length = case_input::small(n.size, list.len());
-    let space = case_input::small(room.size, out.len());
-    let most = case_input::small(n.size, values.len());
-    let least = case_input::small(room.size, values.len());
-    if entry == 1 {
-        return distances_case(s, room.at, &mut values[..most], &mut out[..space]);
-    }
-    if entry == 2 {
-        return least_case(s, room.at, &mut list[..length], &mut values[..least]);
-    }
-    words_case(s, entry, room.at, &mut list[..length], &mut out[..space])
-}
-
-// The code is held against the one expected.
-fn expect_code(a: Encoded, refusal: u64, code: u64) -> Difference {
-    match a {
-        Encoded::Code(c) => difference::first(
-            difference::expect(Part::Refusal, refusal, 0),
-            difference::expect(Part::Code, code, c),
-        ),
-        Encoded::Refused(r) => expect::refused(refusal, r),
+fn list_case(input: &mut Input<'_>, entry: u64) -> Option<Difference> {
+    let mut list = [0u32; 320];
+    let mut values = [7i32; 320];
+    let mut out = [7u32; 320];
+    let n = input.length(320);
+    let room = input.length(320);
+    match entry {
+        1 => distances_case(input, &mut values[..n], &mut out[..room]),
+        2 => least_case(input, &mut list[..n], &mut values[..room]),
+        10 => next_case(input, &mut list[..n], &mut out[..room]),
+        _ => words_case(input, entry, &mut list[..n], &mut out[..room]),
     }
 }
 
-// The distances are read, and their code is compared.
-fn encoded_case(s: &[u8], at: usize, list: &mut [u32]) -> Outcome {
-    let p = case_input::words(s, at, list);
-    let want = case_input::read_expected(s, p);
-    let a = finder::encode(list);
-    Outcome {
-        at: want.at,
-        difference: expect_code(a, want.refusal, want.count),
+// A case of encode: the distances are read, and their code is compared.
+fn encode_case(input: &mut Input<'_>) -> Option<Difference> {
+    let mut list = [0u32; 320];
+    let n = input.length(320);
+    input.read(&mut list[..n]);
+    let want = input.expected();
+    expect::answered(want.answer(want.count), finder::encode(&list[..n]))
+}
+
+// A case of decode: the distances of a code are compared.
+fn decode_case(input: &mut Input<'_>) -> Option<Difference> {
+    let mut out = [7u32; 320];
+    let n = input.length(1000000);
+    let code = input.size();
+    let room = input.length(320);
+    let want = input.expected();
+    let a = finder::decode(n, code, &mut out[..room]);
+    expect_array(input, want, a, &out[..room])
+}
+
+// The case of an entry that starts at the place of the input.
+pub(crate) fn case(input: &mut Input<'_>, entry: u64) -> Option<Difference> {
+    match entry {
+        5 => encode_case(input),
+        6 => decode_case(input),
+        _ => list_case(input, entry),
     }
-}
-
-// A case of encode.
-pub(crate) fn encode_case(s: &[u8], at: usize, list: &mut [u32]) -> Outcome {
-    let n = case_input::number(s, at);
-    let length = case_input::small(n.size, list.len());
-    encoded_case(s, n.at, &mut list[..length])
-}
-
-// The distances of a code are compared.
-fn decoded_case(s: &[u8], at: usize, n: usize, code: u64, out: &mut [u32]) -> Outcome {
-    let want = case_input::read_expected(s, at);
-    let a = finder::decode(n, code, out);
-    case_input::expect_written(s, want, a, out)
-}
-
-// A case of decode.
-pub(crate) fn decode_case(s: &[u8], at: usize, out: &mut [u32]) -> Outcome {
-    let n = case_input::number(s, at);
-    let code = case_input::number(s, n.at);
-    let room = case_input::number(s, code.at);
-    let space = case_input::small(room.size, out.len());
-    let length = case_input::small(n.size, 1000000);
-    decoded_case(s, room.at, length, code.size, &mut out[..space])
 }

@@ -1,8 +1,9 @@
 // One call that is expected to be refused.
-use answers::{SearchState, Streamed};
+use answers::SearchState;
 use test_differences::difference::Difference;
 use test_differences::{difference, expect};
 use test_inputs::arrays;
+use test_states::Search;
 
 // The lengths of the two arrays that a call is lent.
 #[derive(Clone, Copy)]
@@ -11,81 +12,64 @@ pub(crate) struct Room {
     pub(crate) rises: usize,
 }
 
-// A hit array of so many words, and a second array that is as long as it must be.
-pub(crate) fn lend(hits: usize) -> Room {
-    Room {
-        hits,
-        rises: test_rises::least(hits),
+impl Room {
+    // A hit array of so many words, and a second array that is as long as it must be.
+    pub(crate) fn lend(hits: usize) -> Self {
+        Room {
+            hits,
+            rises: test_rises::least(hits),
+        }
+    }
+
+    // Arrays that no call finds too short.
+    pub(crate) fn long() -> Self {
+        Room::lend(256)
+    }
+
+    // Arrays that every call finds too short.
+    pub(crate) fn none() -> Self {
+        Room::lend(0)
     }
 }
 
-// A call with the front of a hit array and of a second array.
-fn call(
-    set: &[u32],
-    automaton: &[u32],
-    state: SearchState,
-    values: &[i32],
-    room: Room,
-    hits: &mut [u32],
-    rises: &mut [i32],
-) -> Streamed {
-    let n = arrays::smaller(room.hits, hits.len());
-    let m = arrays::smaller(room.rises, rises.len());
-    finder::stream_search(
-        set,
-        automaton,
-        state,
-        values,
-        &mut hits[..n],
-        &mut rises[..m],
-    )
-}
-
-// A refusal by the number, and the state as it was, are expected.
-fn expect_state(s: Streamed, state: SearchState, number: u64) -> Difference {
-    let answer = s.answer;
-    let after = s.state;
-    difference::first(
-        expect::stream_refused(answer, number),
-        test_states::expect_same(state, after),
-    )
-}
-
-// Every word and every value is expected to be as it was.
-fn expect_held(hits: &[u32], rises: &[i32]) -> Difference {
-    difference::first(
-        difference::expect_held(hits, 0, arrays::BEFORE),
-        test_rises::expect_front(&[], rises),
-    )
-}
-
-// A call with these values is expected to be refused by the number, to hand the state back as it
-// was and to write nothing. The arrays have 256 words and 128 values.
+// A call with the values of a text is expected to be refused by the number, to hand the state back
+// as it was and to write nothing. The arrays have 256 words and 128 values, of which a front is
+// lent.
 pub(crate) fn expect_refused(
-    set: &[u32],
-    automaton: &[u32],
+    search: Search<'_>,
     state: SearchState,
-    values: &[i32],
     room: Room,
     number: u64,
-) -> Difference {
+) -> Option<Difference> {
     let mut hits = [arrays::BEFORE; 256];
     let mut rises = [test_rises::BEFORE; 128];
-    let s = call(set, automaton, state, values, room, &mut hits, &mut rises);
-    difference::first(expect_state(s, state, number), expect_held(&hits, &rises))
+    let n = room.hits.min(hits.len());
+    let m = room.rises.min(rises.len());
+    let s = finder::stream_search(
+        search.set,
+        search.automaton,
+        state,
+        search.text,
+        &mut hits[..n],
+        &mut rises[..m],
+    );
+    expect::refused(number, s.answer)
+        .or(test_states::expect_same(state, s.state))
+        .or(difference::expect_unwritten(&hits))
+        .or(test_rises::expect_front(&[], &rises))
 }
 
-// The same with these values and with none.
+// The same with the values of the text and with none.
 pub(crate) fn expect_both_refused(
-    set: &[u32],
-    automaton: &[u32],
+    search: Search<'_>,
     state: SearchState,
-    values: &[i32],
     room: Room,
     number: u64,
-) -> Difference {
-    difference::first(
-        expect_refused(set, automaton, state, values, room, number),
-        expect_refused(set, automaton, state, &[], room, number),
-    )
+) -> Option<Difference> {
+    let none = Search {
+        set: search.set,
+        automaton: search.automaton,
+        text: &[],
+    };
+    expect_refused(search, state, room, number).or(expect_refused(none, state, room, number))
 }

@@ -7,22 +7,18 @@ mod calls;
 mod refused;
 mod run_cases;
 
-use test_tally::Tally;
-
-// Runs in calls of up to so many values.
-fn cases(rt: &HostRuntime, group: &[u8], n: usize, most: usize) -> Tally {
-    let mut t = test_tally::none();
-    let mut i: usize = 0;
-    while i < n {
-        t = test_tally::numbered(rt, t, group, i, run_cases::case(i, most));
-        i += 1;
-    }
-    test_tally::report(rt, group, t);
-    t
-}
-
 fn main(rt: HostRuntime) {
-    let a = cases(&rt, b"calls of up to 12 values: ", 32, 12);
-    let b = cases(&rt, b"calls of up to 40 values: ", 16, 40);
-    test_tally::report(&rt, b"in all ", test_tally::both(a, b));
+    let a = test_tally::run(
+        &rt,
+        "calls of up to 12 values: ",
+        32,
+        |i| run_cases::case(i, 12),
+    );
+    let b = test_tally::run(
+        &rt,
+        "calls of up to 40 values: ",
+        16,
+        |i| run_cases::case(i, 40),
+    );
+    test_tally::report(&rt, "in all ", a.and(b));
 }

@@ -7,15 +7,7 @@ use answers::SearchState;
 use test_differences::difference;
 use test_differences::difference::{Difference, Part};
 use test_inputs::{arrays, texts};
-
-// Arrays that no call finds too short, and arrays that every call does.
-fn long() -> Room {
-    calls::lend(256)
-}
-
-fn none() -> Room {
-    calls::lend(0)
-}
+use test_states::Search;
 
 // The words that a hit array must have.
 fn need(set: &[u32]) -> usize
@@ -37,61 +29,76 @@ fn other_automaton(
     s: SearchState,
     text: &[i32],
     seed: usize,
-) -> Difference {
-    let last = 8 * arrays::smaller(number_of_nodes(set, automaton), 1000);
+) -> Option<Difference> {
+    let last = 8 * number_of_nodes(set, automaton).min(1000);
     let i = texts::pick(seed, last);
     let before = arrays::number(automaton, i);
-    arrays::put(automaton, i, arrays::smaller(before, 100000) + 1);
-    let a = calls::expect_refused(set, automaton, s, text, long(), 7);
+    arrays::put(automaton, i, before.min(100000) + 1);
     let broken = test_states::changed(s, 4294967295, s.taken);
-    let b = calls::expect_refused(set, automaton, broken, text, none(), 7);
+    let search = Search {
+        set,
+        automaton,
+        text,
+    };
+    let d = calls::expect_refused(search, s, Room::long(), 7).or(calls::expect_refused(
+        search,
+        broken,
+        Room::none(),
+        7,
+    ));
     arrays::put(automaton, i, before);
-    difference::first(a, b)
+    d
+}
+
+// A call with another set is expected to be refused by the number.
+fn other_set(
+    set: &[u32],
+    automaton: &[u32],
+    s: SearchState,
+    text: &[i32],
+    number: u64,
+) -> Option<Difference> {
+    let search = Search {
+        set,
+        automaton,
+        text,
+    };
+    calls::expect_refused(search, s, Room::long(), number)
 }
 
 // The empty set: 1. What is no set: 5. A good set that holds a pattern of one value: 15. One to
 // which the automaton does not belong: 7.
-fn other_sets(automaton: &[u32], s: SearchState, text: &[i32]) -> Difference {
-    let a = calls::expect_refused(&[0, 0, 0], automaton, s, text, long(), 1);
-    let b = calls::expect_refused(&[1, 1, 0, 1, 1], automaton, s, text, long(), 5);
-    let c = calls::expect_refused(&[2, 3, 0, 1, 3, 0, 0, 0], automaton, s, text, long(), 15);
-    let d = calls::expect_refused(
-        &[2, 5, 0, 2, 5, 0, 0, 0, 0, 0],
-        automaton,
-        s,
-        text,
-        long(),
-        7,
-    );
-    difference::first(difference::first(a, b), difference::first(c, d))
-}
-
-fn smaller_automaton(s: SearchState, text: &[i32], automaton: &mut [u32]) -> Difference {
-    finder::build_automaton(&[1, 2, 0, 2, 0, 1], automaton);
-    if s.node < 3 {
-        return difference::none();
-    }
-    calls::expect_refused(&[1, 2, 0, 2, 0, 1], automaton, s, text, long(), 8)
+fn other_sets(automaton: &[u32], s: SearchState, text: &[i32]) -> Option<Difference> {
+    other_set(&[0, 0, 0], automaton, s, text, 1)
+        .or(other_set(&[1, 1, 0, 1, 1], automaton, s, text, 5))
+        .or(other_set(&[2, 3, 0, 1, 3, 0, 0, 0], automaton, s, text, 15))
+        .or(other_set(&[2, 5, 0, 2, 5, 0, 0, 0, 0, 0], automaton, s, text, 7))
 }
 
 // Another good set with its own automaton, of three nodes, which has not got the state's node: 8.
-fn other_search(s: SearchState, text: &[i32]) -> Difference {
+fn other_search(s: SearchState, text: &[i32]) -> Option<Difference> {
     let mut automaton = [0u32; 48];
-    smaller_automaton(s, text, &mut automaton)
+    let set = [1, 2, 0, 2, 0, 1];
+    let _ = finder::build_automaton(&set, &mut automaton);
+    if s.node < 3 {
+        return None;
+    }
+    other_set(&set, &automaton, s, text, 8)
 }
 
 // ---- short arrays
 
 // A hit array one word too short, with values or with none: 10.
-fn short_hits(set: &[u32], automaton: &[u32], s: SearchState, text: &[i32]) -> Difference {
-    let n = need(set);
+fn short_hits(search: Search<'_>, s: SearchState) -> Option<Difference> {
+    let n = need(search.set);
     if n == 0 {
-        return difference::expect_truth(Part::Patterns, true, false);
+        return difference::expect(Part::Patterns, true, false);
     }
-    calls::expect_both_refused(set, automaton, s, text, calls::lend(n - 1), 10)
+    calls::expect_both_refused(search, s, Room::lend(n - 1), 10)
 }
 
 // The words that a hit array has more than it must have.
+// A table of sizes by number, and no conversion.
 fn words_more(number: usize) -> usize
     ensures { result ≤ 7 }
 {
@@ -106,52 +113,59 @@ fn words_more(number: usize) -> usize
 }
 
 // A second array one value too short, or of none at all: 10.
-fn short_rises(
-    set: &[u32],
-    automaton: &[u32],
-    s: SearchState,
-    text: &[i32],
-    seed: usize,
-) -> Difference {
-    let hits = need(set) + words_more(seed);
+fn short_rises(search: Search<'_>, s: SearchState, seed: usize) -> Option<Difference> {
+    let hits = need(search.set) + words_more(seed);
     let least = test_rises::least(hits);
     if least == 0 {
-        return difference::expect_truth(Part::Patterns, true, false);
+        return difference::expect(Part::Patterns, true, false);
     }
     let short = Room {
         hits,
         rises: least - 1,
     };
     let empty = Room { hits, rises: 0 };
-    difference::first(
-        calls::expect_both_refused(set, automaton, s, text, short, 10),
-        calls::expect_both_refused(set, automaton, s, text, empty, 10),
-    )
+    calls::expect_both_refused(search, s, short, 10).or(calls::expect_both_refused(
+        search, s, empty, 10,
+    ))
 }
 
 // Where all values are taken: one value more, 9, and with none 10, both arrays being too short.
-fn past_end(set: &[u32], automaton: &[u32]) -> Difference {
+fn past_end(set: &[u32], automaton: &[u32]) -> Option<Difference> {
     let full = test_states::changed(SearchState::new(), 0, 1048576);
-    difference::first(
-        calls::expect_refused(set, automaton, full, &[5], none(), 9),
-        calls::expect_refused(set, automaton, full, &[], none(), 10),
-    )
+    let one = Search {
+        set,
+        automaton,
+        text: &[5],
+    };
+    let none = Search {
+        set,
+        automaton,
+        text: &[],
+    };
+    calls::expect_refused(one, full, Room::none(), 9).or(calls::expect_refused(
+        none,
+        full,
+        Room::none(),
+        10,
+    ))
 }
 
 // ---- states that are not accepted
 
 // Refused under 8, whether the arrays are long enough or not.
-fn expect_broken(set: &[u32], automaton: &[u32], s: SearchState, text: &[i32]) -> Difference {
-    difference::first(
-        calls::expect_refused(set, automaton, s, text, long(), 8),
-        calls::expect_both_refused(set, automaton, s, text, none(), 8),
-    )
+fn expect_broken(search: Search<'_>, s: SearchState) -> Option<Difference> {
+    calls::expect_refused(search, s, Room::long(), 8).or(calls::expect_both_refused(
+        search,
+        s,
+        Room::none(),
+        8,
+    ))
 }
 
 // One value more taken: the last of the open minima is not the last value taken. Where no minimum
 // is open, a node other than the root.
 fn one_more_taken(s: SearchState) -> SearchState {
-    let taken = std::num::wrapping_add_u32(s.taken, 1);
+    let taken = s.taken.wrapping_add(1);
     if s.minima == 0 {
         return test_states::changed(s, 1, taken);
     }
@@ -160,37 +174,23 @@ fn one_more_taken(s: SearchState) -> SearchState {
 
 // A node outside of the automaton, more values taken than a search takes, and minima that do not
 // end with the last value taken or are missing.
-fn broken_numbers(set: &[u32], automaton: &[u32], s: SearchState, text: &[i32]) -> Difference {
-    let n = arrays::narrow(number_of_nodes(set, automaton));
-    let outside = test_states::changed(s, n, s.taken);
-    let a = expect_broken(set, automaton, outside, text);
-    let b = expect_broken(set, automaton, test_states::changed(s, 0, 1048577), text);
-    let c = expect_broken(set, automaton, one_more_taken(s), text);
-    difference::first(a, difference::first(b, c))
+fn broken_numbers(search: Search<'_>, s: SearchState) -> Option<Difference> {
+    let n = arrays::narrow(number_of_nodes(search.set, search.automaton));
+    expect_broken(search, test_states::changed(s, n, s.taken))
+        .or(expect_broken(search, test_states::changed(s, 0, 1048577)))
+        .or(expect_broken(search, one_more_taken(s)))
 }
 
 // A value in a slot that no place has filled yet.
-fn filled_too_soon(
-    set: &[u32],
-    automaton: &[u32],
-    s: SearchState,
-    text: &[i32],
-    seed: usize,
-) -> Difference {
-    let taken = arrays::wide(s.taken);
+fn filled_too_soon(search: Search<'_>, s: SearchState, seed: usize) -> Option<Difference> {
+    let taken = s.taken as usize;
     if taken > 255 {
-        return difference::none();
+        return None;
     }
     let some = arrays::narrow(taken + texts::pick(seed, 255 - taken));
-    let a = expect_broken(set, automaton, test_states::keeping(s, s.taken, 1), text);
-    let b = expect_broken(
-        set,
-        automaton,
-        test_states::keeping(s, some, -2147483648),
-        text,
-    );
-    let c = expect_broken(set, automaton, test_states::keeping(s, 255, -1), text);
-    difference::first(a, difference::first(b, c))
+    expect_broken(search, test_states::keeping(s, s.taken, 1))
+        .or(expect_broken(search, test_states::keeping(s, some, -2147483648)))
+        .or(expect_broken(search, test_states::keeping(s, 255, -1)))
 }
 
 // Another value.
@@ -200,76 +200,49 @@ fn other(v: i32) -> i32 {
 
 // The value of the open minimum in a slot of the ring is not the one kept for its place.
 fn other_minimum(s: SearchState, i: usize) -> SearchState {
-    let places = s.places;
-    let values = s.values;
-    let slot = (arrays::wide(s.first) + i % 256) % 256;
-    test_states::keeping(s, places[slot], other(values[slot]))
+    let slot = (s.first as usize + i % 256) % 256;
+    test_states::keeping(s, s.places[slot], other(s.values[slot]))
 }
 
 // The first, the last and any one of the open minima.
-fn not_kept(
-    set: &[u32],
-    automaton: &[u32],
-    s: SearchState,
-    text: &[i32],
-    seed: usize,
-) -> Difference {
-    let minima = arrays::wide(s.minima);
+fn not_kept(search: Search<'_>, s: SearchState, seed: usize) -> Option<Difference> {
+    let minima = s.minima as usize;
     if minima == 0 {
-        return difference::none();
+        return None;
     }
-    let a = expect_broken(set, automaton, other_minimum(s, 0), text);
-    let b = expect_broken(set, automaton, other_minimum(s, minima - 1), text);
-    let any = other_minimum(s, texts::pick(seed, minima - 1));
-    let c = expect_broken(set, automaton, any, text);
-    difference::first(a, difference::first(b, c))
+    expect_broken(search, other_minimum(s, 0))
+        .or(expect_broken(search, other_minimum(s, minima - 1)))
+        .or(expect_broken(search, other_minimum(s, texts::pick(seed, minima - 1))))
 }
 
 // ---- all
 
-// Calls with other sets, automata and arrays.
-fn expect_others(
-    set: &[u32],
-    automaton: &mut [u32],
-    s: SearchState,
-    text: &[i32],
-    seed: usize,
-) -> Difference {
-    let a = other_automaton(set, automaton, s, text, seed);
-    let b = other_sets(automaton, s, text);
-    let c = other_search(s, text);
-    let d = short_hits(set, automaton, s, text);
-    let e = short_rises(set, automaton, s, text, seed);
-    let sets = difference::first(a, difference::first(b, c));
-    difference::first(sets, difference::first(d, e))
+// Calls with other arrays, with states that are not accepted, and at the end of a search.
+fn expect_here(search: Search<'_>, s: SearchState, seed: usize) -> Option<Difference> {
+    let next = texts::next(seed);
+    short_hits(search, s)
+        .or(short_rises(search, s, seed))
+        .or(broken_numbers(search, s))
+        .or(filled_too_soon(search, s, next))
+        .or(not_kept(search, s, next))
+        .or(past_end(search.set, search.automaton))
 }
 
-// Calls with states that are not accepted, and at the end of a search.
-fn expect_states(
-    set: &[u32],
-    automaton: &[u32],
-    s: SearchState,
-    text: &[i32],
-    seed: usize,
-) -> Difference {
-    let a = broken_numbers(set, automaton, s, text);
-    let b = filled_too_soon(set, automaton, s, text, seed);
-    let c = not_kept(set, automaton, s, text, seed);
-    let d = past_end(set, automaton);
-    difference::first(difference::first(a, b), difference::first(c, d))
-}
-
-// All of them.
+// All of them, and calls with other sets and automata.
 pub(crate) fn expect_all(
     set: &[u32],
     automaton: &mut [u32],
     s: SearchState,
     text: &[i32],
     seed: usize,
-) -> Difference {
-    let others = expect_others(set, automaton, s, text, seed);
-    difference::first(
-        others,
-        expect_states(set, automaton, s, text, texts::next(seed)),
-    )
+) -> Option<Difference> {
+    let others = other_automaton(set, automaton, s, text, seed)
+        .or(other_sets(automaton, s, text))
+        .or(other_search(s, text));
+    let search = Search {
+        set,
+        automaton,
+        text,
+    };
+    others.or(expect_here(search, s, seed))
 }

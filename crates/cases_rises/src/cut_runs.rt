@@ -2,103 +2,79 @@
 // plain search.
 ghost use Rattle.std.specs.Prelude.{◌≤◌, ◌<◌};
 
-use answers::{SearchState, StreamAnswer};
+use answers::{Progress, Refusal, SearchState};
 use test_differences::difference::{Difference, Part};
 use test_differences::{difference, expect};
 use test_inputs::{arrays, texts};
+use test_states::Search;
 
 // The state behind a call, the hits that it wrote, and what differs.
 #[derive(Clone, Copy)]
 struct Step {
     state: SearchState,
     hits: usize,
-    difference: Difference,
+    difference: Option<Difference>,
+}
+
+// The hits that the plain search lists: their words in an array.
+#[derive(Clone, Copy)]
+struct Listed<'a> {
+    want: &'a [u32],
+    words: usize,
 }
 
 // ---- one call
 
 // The hits that a call wrote.
-fn hits_of(a: StreamAnswer) -> usize
+fn hits_of(a: Result<Progress, Refusal>) -> usize
     ensures { result ≤ 1024 }
 {
     match a {
-        StreamAnswer::Ended(c) => arrays::smaller(c.hits, 1024),
-        StreamAnswer::Full(c) => arrays::smaller(c.hits, 1024),
-        StreamAnswer::Refused(_) => 0,
+        Ok(p) => p.counts.hits.min(1024),
+        Err(_) => 0,
     }
-}
-
-// The hits of a call are expected to be the next ones of a list of hits, behind so many of them.
-fn expect_next(want: &[u32], before: usize, n: usize, hits: &[u32]) -> Difference
-    requires { (before ≤ 1000000) × (n ≤ 1024) }
-{
-    let e = arrays::smaller(2 * (before + n), want.len());
-    let a = arrays::smaller(2 * before, e);
-    difference::expect_front(&want[a..e], hits)
 }
 
 // A call with the values of a text up to a place: its hits are expected to be the next ones of a
 // list, and its rises those over them.
-fn call(
-    set: &[u32],
-    automaton: &[u32],
-    state: SearchState,
-    text: &[i32],
-    end: usize,
-    want: &[u32],
-    before: usize,
-) -> Step
-    requires { before ≤ 1000000 }
+fn call(search: Search<'_>, state: SearchState, end: usize, want: &[u32]) -> Step
     ensures { result.hits ≤ 1024 }
 {
     let mut hits = [arrays::BEFORE; 2047];
     let mut rises = [test_rises::BEFORE; 1024];
-    let e = arrays::smaller(end, text.len());
-    let a = arrays::smaller(arrays::wide(state.taken), e);
-    let s = finder::stream_search(set, automaton, state, &text[a..e], &mut hits, &mut rises);
-    let answer = s.answer;
-    let after = s.state;
-    let n = hits_of(answer);
-    let written = difference::first(
-        expect_next(want, before, n, &hits),
-        test_rises::expect(set, text, &hits, n, &rises),
-    );
-    let accepted = expect::stream_refused(answer, 0);
+    let s = test_sets::take(search, state, end, &mut hits, &mut rises);
+    let n = hits_of(s.answer);
     Step {
-        state: after,
+        state: s.state,
         hits: n,
-        difference: difference::first(accepted, written),
+        difference: expect::refused(0, s.answer)
+            .or(difference::expect_written(&want[..want.len().min(2 * n)], &hits))
+            .or(test_rises::expect(search.set, search.text, &hits, n, &rises)),
     }
 }
 
 // ---- a run
 
 // A run from a new state: a call that takes so many values, then calls of n values. The hits are
-// expected to be all of the list, of so many words.
-fn expect_run(
-    set: &[u32],
-    automaton: &[u32],
-    text: &[i32],
-    first: usize,
-    n: usize,
-    want: &[u32],
-    words: usize,
-) -> Difference {
+// expected to be all of the list.
+fn expect_run(search: Search<'_>, first: usize, n: usize, list: Listed<'_>) -> Option<Difference> {
     let mut state = SearchState::new();
-    let mut d = difference::none();
+    let mut d = None;
     let mut end = first;
+    let mut rest = list.want;
     let mut hits: usize = 0;
-    let mut turns: usize = 0;
-    while turns < 620 && arrays::wide(state.taken) < text.len() {
-        let s = call(set, automaton, state, text, end, want, hits);
-        let other = s.difference;
-        d = difference::first(d, other);
+    for _ in 0..620 {
+        if state.taken as usize >= search.text.len() {
+            break;
+        }
+        let s = call(search, state, end, rest);
+        d = d.or(s.difference);
         state = s.state;
-        hits += s.hits;
-        end = std::num::wrapping_add_usize(end, n);
-        turns += 1;
+        rest = &rest[rest.len().min(2 * s.hits)..];
+        hits = hits.wrapping_add(s.hits);
+        end = end.wrapping_add(n);
     }
-    difference::first(d, difference::expect_size(Part::Hits, words / 2, hits))
+    d.or(difference::expect(Part::Hits, list.words / 2, hits))
 }
 
 // ---- texts, sets and cuts
@@ -129,6 +105,7 @@ fn put_text(text: &mut [i32], kind: usize, seed: usize) {
 }
 
 // The value at a place of a text that rises or falls.
+// `up` is the sign of one step; two functions would be twins.
 fn slope(up: bool, i: usize) -> i32
     requires { i < 1000 }
 {
@@ -139,27 +116,19 @@ fn slope(up: bool, i: usize) -> i32
 }
 
 // Puts values that rise, or fall, by steps that differ.
+// `up` is the sign of one step; two functions would be twins.
 fn put_slope(text: &mut [i32], up: bool) {
-    let n = arrays::smaller(text.len(), 1000);
-    let mut i: usize = 0;
-    while i < n {
+    for i in 0..text.len().min(1000) {
         text[i] = slope(up, i);
-        i += 1;
     }
-}
-
-// Adds the pattern of the window of n values that begins at a place.
-fn add_window(set: &mut [u32], text: &[i32], from: usize, n: usize) {
-    let a = arrays::smaller(from, text.len());
-    test_sets::add(set, &text[a..], n);
 }
 
 // The set of windows of 256, 255 and 2 values.
 fn make_set(set: &mut [u32], text: &[i32], from: usize) {
     test_sets::begin(set);
-    add_window(set, text, from, 256);
-    add_window(set, text, std::num::wrapping_add_usize(from, 1), 255);
-    add_window(set, text, from, 2);
+    test_sets::add_window(set, text, from, 256);
+    test_sets::add_window(set, text, from.wrapping_add(1), 255);
+    test_sets::add_window(set, text, from, 2);
 }
 
 // The values of the calls behind the first one.
@@ -189,53 +158,32 @@ fn place_of(number: usize) -> usize {
 // ---- cases
 
 // Runs whose first call takes 253 to 260 values.
-fn expect_runs(
-    set: &[u32],
-    automaton: &[u32],
-    text: &[i32],
-    n: usize,
-    want: &[u32],
-    words: usize,
-) -> Difference {
-    let mut d = difference::none();
-    let mut first: usize = 253;
-    while first < 261 {
-        d = difference::first(d, expect_run(set, automaton, text, first, n, want, words));
-        first += 1;
+fn expect_runs(search: Search<'_>, n: usize) -> Option<Difference> {
+    let mut want = [arrays::BEFORE; 4096];
+    let text = search.text;
+    let words = test_plain::hits_between(search.set, text, 0, text.len(), &mut want);
+    let list = Listed { want: &want, words };
+    let mut d = None;
+    for first in 253..261 {
+        d = d.or(expect_run(search, first, n, list));
     }
     d
 }
 
-fn expect_plain(
-    number: usize,
-    set: &[u32],
-    automaton: &[u32],
-    text: &[i32],
-    want: &mut [u32],
-) -> Difference {
-    arrays::hold(want, arrays::BEFORE);
-    let words = test_plain::hits_between(set, text, 0, text.len(), want);
-    expect_runs(set, automaton, text, values_of(number), want, words)
-}
-
-fn expect_all(number: usize, set: &[u32], automaton: &[u32], text: &[i32]) -> Difference {
-    let mut want = [0u32; 4096];
-    expect_plain(number, set, automaton, text, &mut want)
-}
-
-fn case_in(number: usize, set: &mut [u32], automaton: &mut [u32], text: &mut [i32]) -> Difference {
-    put_text(text, number / 8, number);
-    texts::fill_gaps(text, 600);
-    make_set(set, text, place_of(number / 3));
-    finder::build_automaton(set, automaton);
-    expect_all(number, set, automaton, text)
-}
-
 // A text of 600 values of a kind, patterns of 256, 255 and 2 values of it, and runs of calls of 1
 // to 600 values behind the first one. Eight numbers in a row have texts of one kind.
-pub(crate) fn case(number: usize) -> Difference {
+pub(crate) fn case(number: usize) -> Option<Difference> {
     let mut set = [0u32; 560];
     let mut automaton = [0u32; 8700];
     let mut text = [0i32; 600];
-    case_in(number, &mut set, &mut automaton, &mut text)
+    put_text(&mut text, number / 8, number);
+    texts::fill_gaps(&mut text, 600);
+    make_set(&mut set, &text, place_of(number / 3));
+    let _ = finder::build_automaton(&set, &mut automaton);
+    let search = Search {
+        set: &set,
+        automaton: &automaton,
+        text: &text,
+    };
+    expect_runs(search, values_of(number))
 }

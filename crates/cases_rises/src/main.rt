@@ -9,34 +9,9 @@
 mod cut_runs;
 mod kept;
 
-use test_tally::Tally;
-
-// Texts of seven kinds, each in eight ways to cut.
-fn cut_cases(rt: &HostRuntime, group: &[u8], n: usize) -> Tally {
-    let mut t = test_tally::none();
-    let mut i: usize = 0;
-    while i < n {
-        t = test_tally::numbered(rt, t, group, i, cut_runs::case(i));
-        i += 1;
-    }
-    test_tally::report(rt, group, t);
-    t
-}
-
-// States that keep other values.
-fn kept_cases(rt: &HostRuntime, group: &[u8], n: usize) -> Tally {
-    let mut t = test_tally::none();
-    let mut i: usize = 0;
-    while i < n {
-        t = test_tally::numbered(rt, t, group, i, kept::case(i));
-        i += 1;
-    }
-    test_tally::report(rt, group, t);
-    t
-}
-
+// Texts of seven kinds, each in eight ways to cut; states that keep other values.
 fn main(rt: HostRuntime) {
-    let a = cut_cases(&rt, b"runs cut about 256 values: ", 56);
-    let b = kept_cases(&rt, b"other values kept: ", 120);
-    test_tally::report(&rt, b"in all ", test_tally::both(a, b));
+    let a = test_tally::run(&rt, "runs cut about 256 values: ", 56, cut_runs::case);
+    let b = test_tally::run(&rt, "other values kept: ", 120, kept::case);
+    test_tally::report(&rt, "in all ", a.and(b));
 }

@@ -15,41 +15,13 @@
 
 mod set_cases;
 
-use case_input::Outcome;
 use std::alloc::AllocError;
 
-// The case of an entry that starts at a place of the input.
-fn case(s: &[u8], entry: u64, at: usize) -> Outcome {
-    let mut set = [0u32; 4400];
-    let mut values = [0i32; 320];
-    let mut out = [7u32; 320];
-    if entry == 7 {
-        return set_cases::empty_case(s, at, &mut out);
-    }
-    if entry == 8 {
-        return set_cases::check_case(s, at, &mut set);
-    }
-    if entry == 9 {
-        return set_cases::add_case(s, at, &mut set, &mut values);
-    }
-    set_cases::withdraw_case(s, at, &mut set)
-}
-
-// Runs the cases from the start of the input, and prints how many there are and how many of them
-// failed.
-fn run(rt: &HostRuntime, s: &[u8]) {
-    let mut c = case_input::first_case(s);
-    while c.left > 0 {
-        c = case_input::next_case(rt, s, c, case(s, c.first, c.at));
-    }
-    let t = c.tally;
-    test_tally::report(rt, b"", t);
-}
-
-// Runs the cases of standard input.
+// Runs the cases of standard input, and prints how many there are and how many of them failed.
 fn main(rt: HostRuntime) -> Result<(), AllocError> {
     let mut buf = vec![in rt.alloc(); 0u8; 524288]?;
     let n = printing::read_full(&rt, &mut buf);
-    run(&rt, &buf[..n]);
+    let t = case_input::run(&rt, &buf[..n], set_cases::case);
+    test_tally::report(&rt, "", t);
     Ok(())
 }

@@ -1,88 +1,74 @@
-// Cases of the entries on sets of patterns. A case is read and run in arrays that are cut to their
-// lengths already.
-use answers::SetSize;
-use case_input::Outcome;
+// Cases of the entries on sets of patterns. An array is cut to its length before it is read.
+use answers::{Refusal, SetSize};
+use case_input::Input;
+use test_differences::difference::Difference;
 use test_differences::expect;
 
-// The words of an empty set are compared.
-fn emptied_case(s: &[u8], at: usize, out: &mut [u32]) -> Outcome {
-    let want = case_input::read_expected(s, at);
-    let a = finder::empty_set(out);
-    case_input::expect_written(s, want, a, out)
-}
-
-// A case of the empty set.
-pub(crate) fn empty_case(s: &[u8], at: usize, out: &mut [u32]) -> Outcome {
-    let room = case_input::number(s, at);
-    let space = case_input::small(room.size, out.len());
-    emptied_case(s, room.at, &mut out[..space])
+// A case of the empty set: its words are compared.
+fn empty_case(input: &mut Input<'_>) -> Option<Difference> {
+    let mut out = [7u32; 320];
+    let room = input.length(320);
+    let want = input.expected();
+    let a = finder::empty_set(&mut out[..room]);
+    expect::answered(want.answer(want.count as usize), a).or(input.expect_items(&out[..room]))
 }
 
 // The sizes of a set, held against those that are expected next.
-fn expect_sizes(s: &[u8], at: usize, a: SetSize) -> Outcome {
-    let want = case_input::read_expected(s, at);
-    let distances = case_input::number(s, want.at);
-    Outcome {
-        at: distances.at,
-        difference: expect::set_size(a, want.refusal, want.count, distances.size),
-    }
+fn expect_sizes(input: &mut Input<'_>, a: Result<SetSize, Refusal>) -> Option<Difference> {
+    let want = input.expected();
+    let size = SetSize {
+        patterns: want.count as usize,
+        distances: input.size() as usize,
+    };
+    expect::answered(want.answer(size), a)
 }
 
-// The array is read, and its sizes are compared.
-fn checked_case(s: &[u8], at: usize, set: &mut [u32]) -> Outcome {
-    let p = case_input::words(s, at, set);
-    let a = finder::check_set(set);
-    expect_sizes(s, p, a)
-}
-
-// A case of the check of a set.
-pub(crate) fn check_case(s: &[u8], at: usize, set: &mut [u32]) -> Outcome {
-    let n = case_input::number(s, at);
-    let length = case_input::small(n.size, set.len());
-    checked_case(s, n.at, &mut set[..length])
+// A case of the check of a set: the array is read, and its sizes are compared.
+fn check_case(input: &mut Input<'_>, set: &mut [u32]) -> Option<Difference> {
+    input.read(set);
+    expect_sizes(input, finder::check_set(set))
 }
 
 // The sizes and the words of a set, held against those that are expected next.
-fn expect_set(s: &[u8], at: usize, a: SetSize, set: &[u32]) -> Outcome {
-    let sizes = expect_sizes(s, at, a);
-    let d = sizes.difference;
-    let o = case_input::expect_words(s, sizes.at, set);
-    case_input::after(d, o)
+fn expect_set(
+    input: &mut Input<'_>,
+    a: Result<SetSize, Refusal>,
+    set: &[u32],
+) -> Option<Difference> {
+    let sizes = expect_sizes(input, a);
+    sizes.or(input.expect_items(set))
 }
 
-// The values are read and added, and the array is compared.
-fn added_case(s: &[u8], at: usize, set: &mut [u32], values: &mut [i32]) -> Outcome {
-    let q = case_input::values(s, at, values);
-    let a = finder::add_pattern(set, values);
-    expect_set(s, q, a, set)
+// A case of adding a pattern: the array and the values are read, these are added, and the array is
+// compared.
+fn add_case(input: &mut Input<'_>, set: &mut [u32]) -> Option<Difference> {
+    let mut values = [0i32; 320];
+    input.read(set);
+    let n = input.length(320);
+    input.read(&mut values[..n]);
+    let a = finder::add_pattern(set, &values[..n]);
+    expect_set(input, a, set)
 }
 
-// The array is read, and the values are cut to their length.
-fn given_case(s: &[u8], at: usize, set: &mut [u32], values: &mut [i32]) -> Outcome {
-    let p = case_input::words(s, at, set);
-    let m = case_input::number(s, p);
-    let more = case_input::small(m.size, values.len());
-    added_case(s, m.at, set, &mut values[..more])
+// A case of withdrawing a pattern: the array and the number are read, that pattern is withdrawn,
+// and the array is compared.
+fn withdraw_case(input: &mut Input<'_>, set: &mut [u32]) -> Option<Difference> {
+    input.read(set);
+    let j = input.size() as usize;
+    let a = finder::withdraw_pattern(set, j);
+    expect_set(input, a, set)
 }
 
-// A case of adding a pattern.
-pub(crate) fn add_case(s: &[u8], at: usize, set: &mut [u32], values: &mut [i32]) -> Outcome {
-    let n = case_input::number(s, at);
-    let length = case_input::small(n.size, set.len());
-    given_case(s, n.at, &mut set[..length], values)
-}
-
-// The number is read and that pattern withdrawn, and the array is compared.
-fn withdrawn_case(s: &[u8], at: usize, set: &mut [u32]) -> Outcome {
-    let p = case_input::words(s, at, set);
-    let j = case_input::number(s, p);
-    let a = finder::withdraw_pattern(set, j.size as usize);
-    expect_set(s, j.at, a, set)
-}
-
-// A case of withdrawing a pattern.
-pub(crate) fn withdraw_case(s: &[u8], at: usize, set: &mut [u32]) -> Outcome {
-    let n = case_input::number(s, at);
-    let length = case_input::small(n.size, set.len());
-    withdrawn_case(s, n.at, &mut set[..length])
+// The case of an entry that starts at the place of the input.
+pub(crate) fn case(input: &mut Input<'_>, entry: u64) -> Option<Difference> {
+    if entry == 7 {
+        return empty_case(input);
+    }
+    let mut set = [0u32; 4400];
+    let n = input.length(4400);
+    match entry {
+        8 => check_case(input, &mut set[..n]),
+        9 => add_case(input, &mut set[..n]),
+        _ => withdraw_case(input, &mut set[..n]),
+    }
 }

@@ -10,8 +10,8 @@ mod given;
 mod good;
 
 fn main(rt: HostRuntime) {
-    let a = good::states(&rt, b"accepted: ");
-    let b = bad::states(&rt, b"refused: ");
-    let c = good::hits(&rt, b"rises from values kept: ");
-    test_tally::report(&rt, b"in all ", test_tally::both(a, test_tally::both(b, c)));
+    let a = good::states(&rt, "accepted: ");
+    let b = bad::states(&rt, "refused: ");
+    let c = good::hits(&rt, "rises from values kept: ");
+    test_tally::report(&rt, "in all ", a.and(b).and(c));
 }

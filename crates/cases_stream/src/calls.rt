@@ -1,128 +1,79 @@
 // One call, held against the reference.
-ghost use Rattle.std.specs.Prelude.{◌<◌};
-
-use answers::{Counts, SearchState, Streamed};
+use answers::{Counts, End, Progress, SearchState, Streamed};
 use test_differences::difference::Difference;
 use test_differences::{difference, expect};
 use test_inputs::arrays;
+use test_states::Search;
 
 // The state that a call hands back, and what differs in all that it answered.
 #[derive(Clone, Copy)]
 pub struct Step {
     pub state: SearchState,
-    pub difference: Difference,
+    pub difference: Option<Difference>,
 }
 
-// What a call must do: take the values before a place, write so many words, make so many attempts.
+// What a call must do: take the values from a place to another one, write so many words, make so
+// many attempts, and end, or else be full.
 #[derive(Clone, Copy)]
 struct Expected {
+    from: usize,
     to: usize,
     words: usize,
     attempts: usize,
+    end: End,
 }
 
-// What a call answered, and what differs in the rises that it wrote.
-#[derive(Clone, Copy)]
-struct Called {
-    streamed: Streamed,
-    difference: Difference,
-}
-
-// A call with the values between two places of a text, the first words of a hit array, and a second
-// array that is as long as it must be, or one or two values longer.
-fn call_in(
-    set: &[u32],
-    automaton: &[u32],
-    state: SearchState,
-    text: &[i32],
-    from: usize,
-    end: usize,
-    room: usize,
-    hits: &mut [u32],
-    rises: &mut [i32],
-) -> Streamed {
-    let e = arrays::smaller(end, text.len());
-    let a = arrays::smaller(from, e);
-    let n = arrays::smaller(room, hits.len());
-    let m = arrays::smaller(test_rises::least(n) + from % 3, rises.len());
-    finder::stream_search(
-        set,
-        automaton,
-        state,
-        &text[a..e],
-        &mut hits[..n],
-        &mut rises[..m],
-    )
-}
-
-// The call, whose rises are expected to be those over the first so many hits of a list.
-fn call(
-    set: &[u32],
-    automaton: &[u32],
-    state: SearchState,
-    text: &[i32],
-    from: usize,
-    end: usize,
-    room: usize,
-    hits: &mut [u32],
-    want: &[u32],
-    count: usize,
-) -> Called {
-    let mut rises = [test_rises::BEFORE; 1026];
-    let streamed = call_in(
-        set, automaton, state, text, from, end, room, hits, &mut rises,
-    );
-    Called {
-        streamed,
-        difference: test_rises::expect(set, text, want, count, &rises),
+impl Expected {
+    // What a call that does this tells.
+    fn progress(self) -> Progress {
+        Progress {
+            end: self.end,
+            counts: Counts {
+                taken: self.to.saturating_sub(self.from),
+                hits: self.words / 2,
+                attempts: self.attempts,
+            },
+        }
     }
-}
-
-fn less(a: usize, b: usize) -> usize {
-    if a < b { 0 } else { a - b }
 }
 
 // The place up to which the reference takes values: one more while enough words are free for the
 // hits of any value.
 fn place_reached(
-    set: &[u32],
-    text: &[i32],
+    search: Search<'_>,
     from: usize,
     end: usize,
     room: usize,
     scratch: &mut [u32],
 ) -> usize {
-    let need = 2 * test_plain::pattern_count(set);
+    let need = 2 * test_plain::pattern_count(search.set);
     let mut free = room;
-    let mut p = from;
-    while p < end {
+    for p in from..end {
         if free < need {
             return p;
         }
-        let words = test_plain::hits_between(set, text, p, p + 1, scratch);
-        free = less(free, words);
-        p += 1;
+        let words = test_plain::hits_between(search.set, search.text, p, p + 1, scratch);
+        free = free.saturating_sub(words);
     }
-    p
+    from.max(end)
 }
 
 // What a call with the values between two places must do; the hits are put to the array.
 fn expect_call(
-    set: &[u32],
-    text: &[i32],
+    search: Search<'_>,
     from: usize,
     end: usize,
     room: usize,
     want: &mut [u32],
 ) -> Expected {
-    let to = place_reached(set, text, from, end, room, want);
-    arrays::hold(want, arrays::BEFORE);
-    let words = test_plain::hits_between(set, text, from, to, want);
-    let attempts = test_plain::attempts_between(set, text, from, to);
+    let to = place_reached(search, from, end, room, want);
+    want.fill(arrays::BEFORE);
     Expected {
+        from,
         to,
-        words,
-        attempts,
+        words: test_plain::hits_between(search.set, search.text, from, to, want),
+        attempts: test_plain::attempts_between(search.set, search.text, from, to),
+        end: if to == end { End::Ended } else { End::Full },
     }
 }
 
@@ -132,99 +83,37 @@ fn expect_cleared(
     before: SearchState,
     after: SearchState,
     text: &[i32],
-    from: usize,
-    to: usize,
-) -> Difference {
-    if from >= to {
-        return difference::none();
-    }
-    if test_plain::next_sample(text, from) < to {
-        return difference::none();
-    }
-    test_states::expect_same(test_states::cleared(before, arrays::narrow(to)), after)
-}
-
-// What a call answered, the hits that it wrote, and the state that it handed back, held against
-// what is expected.
-fn expect_step(
-    set: &[u32],
-    automaton: &[u32],
-    s: Streamed,
-    text: &[i32],
-    want: &[u32],
-    hits: &[u32],
     x: Expected,
-    ended: bool,
-    from: usize,
-) -> Difference {
-    let answer = s.answer;
-    let state = s.state;
-    let counts = Counts {
-        taken: less(x.to, from),
-        hits: x.words / 2,
-        attempts: x.attempts,
-    };
-    let answered = difference::first(
-        expect::streamed(answer, ended, counts),
-        difference::expect_words(want, hits),
-    );
-    difference::first(
-        answered,
-        test_states::expect_after(state, set, automaton, text, x.to),
-    )
-}
-
-// The call, held against what it must do: the hits are expected to be those of the list.
-fn step_as(
-    set: &[u32],
-    automaton: &[u32],
-    state: SearchState,
-    text: &[i32],
-    end: usize,
-    room: usize,
-    x: Expected,
-    want: &[u32],
-) -> Step {
-    let mut hits = [arrays::BEFORE; 2048];
-    let from = arrays::wide(state.taken);
-    let hit_count = x.words / 2;
-    let c = call(
-        set, automaton, state, text, from, end, room, &mut hits, want, hit_count,
-    );
-    let s = c.streamed;
-    let rises = c.difference;
-    let after = s.state;
-    let d = expect_step(set, automaton, s, text, want, &hits, x, x.to == end, from);
-    let cleared = expect_cleared(state, after, text, from, x.to);
-    Step {
-        state: after,
-        difference: difference::first(d, difference::first(rises, cleared)),
+) -> Option<Difference> {
+    if x.from >= x.to {
+        return None;
     }
-}
-
-fn step_in(
-    set: &[u32],
-    automaton: &[u32],
-    state: SearchState,
-    text: &[i32],
-    end: usize,
-    room: usize,
-    want: &mut [u32],
-) -> Step {
-    let x = expect_call(set, text, arrays::wide(state.taken), end, room, want);
-    step_as(set, automaton, state, text, end, room, x, want)
+    if test_plain::next_sample(text, x.from) < x.to {
+        return None;
+    }
+    test_states::expect_same(test_states::cleared(before, arrays::narrow(x.to)), after)
 }
 
 // A call with the values of the text from those taken up to an end, and a hit array of so many
-// words.
-pub(crate) fn make_step(
-    set: &[u32],
-    automaton: &[u32],
-    state: SearchState,
-    text: &[i32],
-    end: usize,
-    room: usize,
-) -> Step {
+// words; the second array is as long as it must be, or one or two values longer. It is held against
+// the reference: what it answers, the hits that it writes, the state that it hands back, and the
+// rises.
+pub(crate) fn make_step(search: Search<'_>, state: SearchState, end: usize, room: usize) -> Step {
     let mut want = [0u32; 2048];
-    step_in(set, automaton, state, text, end, room, &mut want)
+    let mut hits = [arrays::BEFORE; 2048];
+    let mut rises = [test_rises::BEFORE; 1026];
+    let x = expect_call(search, state.taken as usize, end, room, &mut want);
+    let n = room.min(hits.len());
+    let m = (test_rises::least(n) + x.from % 3).min(rises.len());
+    let s = test_sets::take(search, state, end, &mut hits[..n], &mut rises[..m]);
+    let after = s.state;
+    let written = test_rises::expect(search.set, search.text, &want, x.words / 2, &rises);
+    Step {
+        state: after,
+        difference: expect::answered(Ok(x.progress()), s.answer)
+            .or(difference::expect_words(&want, &hits))
+            .or(test_states::expect_after(after, search, x.to))
+            .or(written)
+            .or(expect_cleared(state, after, search.text, x)),
+    }
 }

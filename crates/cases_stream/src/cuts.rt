@@ -5,7 +5,7 @@ use test_inputs::texts;
 
 // One more place.
 fn behind(place: usize) -> usize {
-    std::num::wrapping_add_usize(place, 1)
+    place.wrapping_add(1)
 }
 
 // Before the next gap; behind it, where it is the next value.

@@ -10,64 +10,25 @@ mod cuts;
 mod gap_runs;
 mod run_cases;
 
-use test_tally::Tally;
+use test_tally::{Cases, Tally};
 
-fn random_cases(rt: &HostRuntime, group: &[u8], n: usize) -> Tally {
-    let mut t = test_tally::none();
-    let mut i: usize = 0;
-    while i < n {
-        t = test_tally::numbered(rt, t, group, i, run_cases::random_case(i));
-        i += 1;
-    }
-    test_tally::report(rt, group, t);
-    t
-}
-
-// Texts with scattered gaps.
-fn scattered_gaps(rt: &HostRuntime, group: &[u8], n: usize) -> Tally {
-    let mut t = test_tally::none();
-    let mut i: usize = 0;
-    while i < n {
-        t = test_tally::numbered(rt, t, group, i, gap_runs::scattered_case(i));
-        i += 1;
-    }
-    test_tally::report(rt, group, t);
-    t
-}
-
-// Texts with gaps at a distance from each other.
-fn gaps_apart(rt: &HostRuntime, group: &[u8], n: usize) -> Tally {
-    let mut t = test_tally::none();
-    let mut i: usize = 0;
-    while i < n {
-        t = test_tally::numbered(rt, t, group, i, gap_runs::apart_case(i));
-        i += 1;
-    }
-    test_tally::report(rt, group, t);
-    t
-}
-
-fn cut_cases(rt: &HostRuntime, group: &[u8]) -> Tally {
-    let flat = test_tally::named(
-        rt,
-        test_tally::none(),
-        b"600 equal values",
-        run_cases::cut_case(0),
-    );
-    let up = test_tally::named(rt, flat, b"600 rising values", run_cases::cut_case(1));
-    let t = test_tally::named(rt, up, b"600 falling values", run_cases::cut_case(2));
-    test_tally::report(rt, group, t);
-    t
+fn cut_cases(rt: &HostRuntime, group: &str) -> Tally {
+    let mut cases = Cases::new(rt);
+    cases.named("600 equal values", run_cases::cut_case(0));
+    cases.named("600 rising values", run_cases::cut_case(1));
+    cases.named("600 falling values", run_cases::cut_case(2));
+    test_tally::report(rt, group, cases.tally)
 }
 
 fn main(rt: HostRuntime) {
-    let a = random_cases(&rt, b"random runs: ", 1000);
-    let b = cut_cases(&rt, b"600 values: ");
-    let c = scattered_gaps(&rt, b"random runs with gaps: ", 500);
-    let d = gaps_apart(&rt, b"gaps at distances: ", 128);
-    test_tally::report(
+    let a = test_tally::run(&rt, "random runs: ", 1000, run_cases::random_case);
+    let b = cut_cases(&rt, "600 values: ");
+    let c = test_tally::run(
         &rt,
-        b"in all ",
-        test_tally::both(test_tally::both(a, b), test_tally::both(c, d)),
+        "random runs with gaps: ",
+        500,
+        gap_runs::scattered_case,
     );
+    let d = test_tally::run(&rt, "gaps at distances: ", 128, gap_runs::apart_case);
+    test_tally::report(&rt, "in all ", a.and(b).and(c).and(d));
 }

@@ -5,74 +5,57 @@ use crate::{calls, cuts};
 use answers::SearchState;
 use test_differences::difference;
 use test_differences::difference::{Difference, Part};
-use test_inputs::{arrays, texts};
+use test_inputs::texts;
+use test_states::Search;
 
 // One call of a run that is cut in a way, with a hit array of at least 2 words for each pattern.
-fn next_call(
-    set: &[u32],
-    automaton: &[u32],
-    s: SearchState,
-    text: &[i32],
-    n: usize,
-    way: usize,
-    seed: usize,
-) -> calls::Step {
-    let end = arrays::smaller(cuts::call_end(text, arrays::wide(s.taken), way, seed), n);
-    let room = 2 * test_plain::pattern_count(set) + cuts::words_more(way, texts::next(seed));
-    calls::make_step(set, automaton, s, text, end, room)
+fn next_call(search: Search<'_>, s: SearchState, way: usize, seed: usize) -> calls::Step {
+    let text = search.text;
+    let end = cuts::call_end(text, s.taken as usize, way, seed).min(text.len());
+    let most = cuts::words_more(way, texts::next(seed));
+    let room = 2 * test_plain::pattern_count(search.set) + most;
+    calls::make_step(search, s, end, room)
 }
 
-// What differs first in a run over the first n values of a text, cut into calls in a way, which is
-// expected to go to their end.
-pub(crate) fn expect_run(
-    set: &[u32],
-    automaton: &[u32],
-    text: &[i32],
-    n: usize,
-    way: usize,
-    seed: usize,
-) -> Difference {
+// What differs first in a run over a text, cut into calls in a way, which is expected to go to its
+// end.
+pub(crate) fn expect_run(search: Search<'_>, way: usize, seed: usize) -> Option<Difference> {
+    let n = search.text.len();
     let mut s = SearchState::new();
     let mut t = seed;
-    let mut turns: usize = 0;
-    while turns < 5000 {
-        if arrays::wide(s.taken) >= n {
-            return difference::none();
+    for _ in 0..5000 {
+        if s.taken as usize >= n {
+            return None;
         }
         t = texts::next(t);
-        let step = next_call(set, automaton, s, text, n, way, t);
+        let step = next_call(search, s, way, t);
         let d = step.difference;
-        if !difference::is_none(d) {
+        if d.is_some() {
             return d;
         }
         s = step.state;
-        turns += 1;
     }
-    difference::expect_size(Part::Taken, n, arrays::wide(s.taken))
-}
-
-fn random_in(
-    number: usize,
-    set: &mut [u32],
-    automaton: &mut [u32],
-    text: &mut [i32],
-) -> Difference {
-    let s = texts::next(number);
-    let kind = texts::pick(number, 6);
-    let n = texts::pick(s, 120);
-    let t = texts::fill(text, n, kind, s);
-    let k = texts::pick(t, 4) + 1;
-    let u = test_sets::make(set, text, kind, k, 8, t);
-    finder::build_automaton(set, automaton);
-    expect_run(set, automaton, text, n, 0, u)
+    difference::expect(Part::Taken, n, s.taken as usize)
 }
 
 // A text of up to 120 values, and up to 5 patterns of 2 to 10.
-pub(crate) fn random_case(number: usize) -> Difference {
+pub(crate) fn random_case(number: usize) -> Option<Difference> {
     let mut set = [0u32; 80];
     let mut automaton = [0u32; 850];
     let mut text = [0i32; 120];
-    random_in(number, &mut set, &mut automaton, &mut text)
+    let s = texts::next(number);
+    let kind = texts::pick(number, 6);
+    let n = texts::pick(s, 120);
+    let t = texts::fill(&mut text, n, kind, s);
+    let k = texts::pick(t, 4) + 1;
+    let u = test_sets::make(&mut set, &text, kind, k, 8, t);
+    let _ = finder::build_automaton(&set, &mut automaton);
+    let search = Search {
+        set: &set,
+        automaton: &automaton,
+        text: &text[..n],
+    };
+    expect_run(search, 0, u)
 }
 
 // ---- 600 values
@@ -88,79 +71,37 @@ fn level(way: usize, i: usize) -> i32
     }
 }
 
-fn put_text(text: &mut [i32; 600], way: usize) {
-    let mut i: usize = 0;
-    while i < 600 {
-        text[i] = level(way, i);
-        i += 1;
+// Calls that end before each of some places.
+fn cut_run(search: Search<'_>, ends: [usize; 4]) -> Option<Difference> {
+    let mut state = SearchState::new();
+    let mut d = None;
+    for end in ends {
+        let step = calls::make_step(search, state, end, 2048);
+        d = d.or(step.difference);
+        state = step.state;
     }
-}
-
-// One call up to an end, behind another one.
-fn cut(
-    before: calls::Step,
-    set: &[u32],
-    automaton: &[u32],
-    text: &[i32],
-    end: usize,
-) -> calls::Step {
-    let s = before.state;
-    let step = calls::make_step(set, automaton, s, text, end, 2048);
-    let after = step.state;
-    let d = step.difference;
-    let earlier = before.difference;
-    calls::Step {
-        state: after,
-        difference: difference::first(earlier, d),
-    }
-}
-
-// Calls that end before the places a, b and c, and one with the rest.
-fn cut_run(
-    set: &[u32],
-    automaton: &[u32],
-    text: &[i32],
-    a: usize,
-    b: usize,
-    c: usize,
-) -> Difference {
-    let start = calls::Step {
-        state: SearchState::new(),
-        difference: difference::none(),
-    };
-    let x = cut(start, set, automaton, text, a);
-    let y = cut(x, set, automaton, text, b);
-    let z = cut(y, set, automaton, text, c);
-    let last = cut(z, set, automaton, text, 600);
-    let d = last.difference;
     d
-}
-
-fn expect_cuts(set: &[u32], automaton: &[u32], text: &[i32]) -> Difference {
-    let a = cut_run(set, automaton, text, 255, 256, 257);
-    let b = cut_run(set, automaton, text, 256, 512, 512);
-    let c = cut_run(set, automaton, text, 257, 511, 513);
-    difference::first(a, difference::first(b, c))
-}
-
-fn cuts_in(set: &mut [u32], automaton: &mut [u32], text: &[i32]) -> Difference {
-    finder::empty_set(set);
-    test_sets::add(set, text, 256);
-    test_sets::add(set, text, 2);
-    finder::build_automaton(set, automaton);
-    expect_cuts(set, automaton, text)
-}
-
-fn cuts(text: &[i32; 600]) -> Difference {
-    let mut set = [0u32; 300];
-    let mut automaton = [0u32; 4200];
-    cuts_in(&mut set, &mut automaton, text)
 }
 
 // A text of 600 values that are all equal, rise or fall, cut about the places 256 and 512, and
 // patterns of 256 and of 2 values of it.
-pub(crate) fn cut_case(way: usize) -> Difference {
+pub(crate) fn cut_case(way: usize) -> Option<Difference> {
+    let mut set = [0u32; 300];
+    let mut automaton = [0u32; 4200];
     let mut text = [0i32; 600];
-    put_text(&mut text, way);
-    cuts(&text)
+    for i in 0..600 {
+        text[i] = level(way, i);
+    }
+    let _ = finder::empty_set(&mut set);
+    test_sets::add(&mut set, &text, 256);
+    test_sets::add(&mut set, &text, 2);
+    let _ = finder::build_automaton(&set, &mut automaton);
+    let search = Search {
+        set: &set,
+        automaton: &automaton,
+        text: &text,
+    };
+    cut_run(search, [255, 256, 257, 600])
+        .or(cut_run(search, [256, 512, 512, 600]))
+        .or(cut_run(search, [257, 511, 513, 600]))
 }

@@ -6,20 +6,13 @@
 mod model;
 mod sequences;
 
-use test_tally::Tally;
+use test_tally::Cases;
 
 // The sequences, of 300 steps each.
-fn all_steps(rt: &HostRuntime, group: &[u8]) -> Tally {
-    let mut t = test_tally::none();
-    let mut i: usize = 0;
-    while i < 4800 {
-        t = sequences::sequence(rt, t, group, i);
-        i += 300;
-    }
-    test_tally::report(rt, group, t);
-    t
-}
-
 fn main(rt: HostRuntime) {
-    all_steps(&rt, b"steps: ");
+    let mut cases = Cases::new(&rt);
+    for number in 0..16 {
+        sequences::sequence(&mut cases, number);
+    }
+    test_tally::report(&rt, sequences::GROUP, cases.tally);
 }

@@ -1,45 +1,41 @@
 // Sequences of steps: patterns are added to a set in one array and withdrawn from it. After each
 // step the answer and every word of the array are held against a model. Each step is a case.
+ghost use Rattle.std.specs.Prelude.{◌<◌};
+
 use crate::model;
-use answers::SetSize;
+use answers::{Refusal, SetSize};
 use test_differences::difference::Difference;
 use test_differences::{difference, expect};
 use test_inputs::{arrays, texts};
-use test_tally::Tally;
+use test_tally::Cases;
 
 // ---- one step
 
-// The answer is expected to be the refusal of this number, or else the sizes of the model, and
-// every word of the array to be the model's.
-fn expect_set(a: SetSize, refusal: u64, words: &[u32], set: &[u32]) -> Difference {
-    let k = arrays::number(words, 0) as u64;
-    let n = arrays::number(words, 1) as u64;
-    difference::first(
-        expect::set_size(a, refusal, k, n),
-        difference::expect_words(words, set),
-    )
+// The answer is expected to be that of the model, and every word of the array to be the model's.
+fn expect_set(
+    a: Result<SetSize, Refusal>,
+    want: Result<SetSize, u64>,
+    words: &[u32],
+    set: &[u32],
+) -> Option<Difference> {
+    expect::answered(want, a).or(difference::expect_words(words, set))
 }
 
 // Withdraws pattern j.
-fn withdraw(set: &mut [u32], words: &mut [u32], j: usize) -> Difference {
-    let refusal = model::withdraw(words, j);
+fn withdraw(set: &mut [u32], words: &mut [u32], j: usize) -> Option<Difference> {
+    let want = model::withdraw(words, j);
     let a = finder::withdraw_pattern(set, j);
-    expect_set(a, refusal, words, set)
-}
-
-// Adds a pattern, given as values.
-fn add_values(set: &mut [u32], words: &mut [u32], values: &[i32]) -> Difference {
-    let refusal = model::add(words, values);
-    let a = finder::add_pattern(set, values);
-    expect_set(a, refusal, words, set)
+    expect_set(a, want, words, set)
 }
 
 // Adds a pattern of m values from a seed: a walk, of many levels, flat, or rising.
-fn add(set: &mut [u32], words: &mut [u32], m: usize, seed: usize) -> Difference {
+fn add(set: &mut [u32], words: &mut [u32], m: usize, seed: usize) -> Option<Difference> {
     let mut values = [0i32; 256];
-    let n = arrays::smaller(m, 256);
+    let n = m.min(256);
     texts::fill(&mut values, n, texts::pick(seed, 3) + 4, seed);
-    add_values(set, words, &values[..n])
+    let want = model::add(words, &values[..n]);
+    let a = finder::add_pattern(set, &values[..n]);
+    expect_set(a, want, words, set)
 }
 
 // ---- sequences
@@ -81,7 +77,7 @@ fn pattern_length(number: usize, seed: usize) -> usize {
 fn of_none(way: usize, k: usize) -> usize {
     match way % 3 {
         0 => k,
-        1 => std::num::wrapping_add_usize(k, 1),
+        1 => k.wrapping_add(1),
         _ => 18446744073709551615,
     }
 }
@@ -105,56 +101,48 @@ fn take_step(
     number: usize,
     step: usize,
     seed: usize,
-) -> Difference {
+) -> Option<Difference> {
     let s = texts::next(seed);
     if texts::pick(seed, 15) < additions(step) {
         let t = pattern_seed(s);
         return add(set, words, pattern_length(number, t), t);
     }
-    withdraw(
-        set,
-        words,
-        withdrawn_number(model::pattern_count(words), step, s),
-    )
+    let j = withdrawn_number(model::pattern_count(words), step, s);
+    withdraw(set, words, j)
 }
 
-// Stores a pattern of one value, which no entry adds, and one of two values behind it.
-fn store_two(words: &mut [u32]) {
-    model::store(words, &[7]);
-    model::store(words, &[7, 5]);
-}
-
-// The set that a sequence begins with, in both arrays: so many patterns of one value, and one of
-// two values behind each.
+// The set that a sequence begins with, in both arrays: so many patterns of one value, which no
+// entry adds, and one of two values behind each.
 fn begin(set: &mut [u32], words: &mut [u32], stored: usize) {
-    let mut i: usize = 0;
-    finder::empty_set(words);
-    while i < stored {
-        store_two(words);
-        i += 1;
+    let _ = finder::empty_set(words);
+    for _ in 0..stored {
+        model::store(words, &[7]);
+        model::store(words, &[7, 5]);
     }
     arrays::copy(words, set);
 }
 
 // How many patterns of one value a sequence begins with: the first eight with the empty set.
-fn stored_patterns(rt: &HostRuntime, number: usize) -> usize {
+fn stored_patterns(number: usize) -> usize {
     if number < 8 { 0 } else { 20 }
 }
 
-// 300 steps from a set on, in an array that has words behind the largest set; the number of the
-// first one gives them.
-pub(crate) fn sequence(rt: &HostRuntime, t: Tally, group: &[u8], first: usize) -> Tally {
+// What a step is called.
+pub(crate) const GROUP: &str = "steps: ";
+
+// 300 steps from a set on, in an array that has words behind the largest set; the steps are
+// numbered through all sequences.
+pub(crate) fn sequence(cases: &mut Cases<'_>, number: usize)
+    requires { number < 16 }
+{
     let mut set = [arrays::BEFORE; 4200];
     let mut words = [arrays::BEFORE; 20648];
-    let mut tally = t;
+    let first = 300 * number;
     let mut s = texts::next(first);
-    let mut i: usize = 0;
-    begin(&mut set, &mut words, stored_patterns(rt, first / 300));
-    while i < 300 {
+    begin(&mut set, &mut words, stored_patterns(number));
+    for i in 0..300 {
         s = texts::next(s);
-        let d = take_step(&mut set, &mut words, first / 300, i, s);
-        tally = test_tally::numbered(rt, tally, group, std::num::wrapping_add_usize(first, i), d);
-        i += 1;
+        let d = take_step(&mut set, &mut words, number, i, s);
+        cases.numbered(GROUP, first + i, d);
     }
-    tally
 }

@@ -1,15 +1,15 @@
 // The list of hits that is expected once a pattern is withdrawn, made from the one before.
 ghost use Rattle.std.specs.Prelude.{◌+◌, ◌≤◌};
 
-use answers::Filtered;
 use test_inputs::arrays;
 
 // Lists the hits of a text; returns how many there are, 0 where the search is refused.
+// No Option: a search that is refused has listed no hit.
 pub(crate) fn list_hits(set: &[u32], text: &[i32], list: &mut [u32]) -> usize {
     let mut rises = [0i32; 4000];
     match finder::filter_search(set, text, list, &mut rises) {
-        Filtered::Found(hits, _) => hits,
-        Filtered::Refused(_) => 0,
+        Ok(found) => found.hits,
+        Err(_) => 0,
     }
 }
 
@@ -37,13 +37,10 @@ fn put_if_other(list: &[u32], i: usize, j: usize, out: &mut [u32], hits: usize) 
 // are left out, and the others have the numbers that their patterns have without it. Returns how
 // many they are.
 pub(crate) fn leave_out(list: &[u32], hits: usize, j: usize, out: &mut [u32]) -> usize {
-    arrays::hold(out, arrays::BEFORE);
-    let n = arrays::smaller(hits, 1000000);
+    out.fill(arrays::BEFORE);
     let mut to = 0;
-    let mut i = 0;
-    while i < n {
+    for i in 0..hits.min(1000000) {
         to = put_if_other(list, i, j, out, to);
-        i += 1;
     }
     to
 }

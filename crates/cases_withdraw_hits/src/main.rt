@@ -8,20 +8,7 @@ mod hit_lists;
 mod list_cases;
 mod searches;
 
-use test_tally::Tally;
-
 // The lists of hits; four cases have the same text and set.
-fn all_lists(rt: &HostRuntime, group: &[u8]) -> Tally {
-    let mut t = test_tally::none();
-    let mut i: usize = 0;
-    while i < 2000 {
-        t = test_tally::numbered(rt, t, group, i, list_cases::case(i));
-        i += 1;
-    }
-    test_tally::report(rt, group, t);
-    t
-}
-
 fn main(rt: HostRuntime) {
-    all_lists(&rt, b"lists of hits: ");
+    test_tally::run(&rt, "lists of hits: ", 2000, list_cases::case);
 }

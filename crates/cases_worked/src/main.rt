@@ -8,7 +8,7 @@ mod searches;
 mod sets;
 
 fn main(rt: HostRuntime) {
-    let a = sets::all_cases(&rt, b"sets: ");
-    let b = searches::all_cases(&rt, b"searches: ");
-    test_tally::report(&rt, b"in all ", test_tally::both(a, b));
+    let a = sets::all_cases(&rt, "sets: ");
+    let b = searches::all_cases(&rt, "searches: ");
+    test_tally::report(&rt, "in all ", a.and(b));
 }

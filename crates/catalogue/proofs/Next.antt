@@ -1,8 +1,8 @@
 -- The next list is the least of the realizable lists of its length that come after it: no such list
 -- is missing where it is looked for, and the least of some lists is one of them and after none.
 use Rattle.std.specs.Prelude.{◌≡◌, ◌⊎◌, ◌↔◌, ◌∷◌}
-use Rattle.lists.proofs.Prelude.{ap, sym, refl, subst, inl, inr, Bool, true, false, cond, none, some, some-injective}
-use Rattle.lists.proofs.Prelude.{none-ne-some, List, [], foldr, Memᴰ, Memᴰ-head, Memᴰ-tail, Memᴰ-not-nil}
+use Rattle.lists.proofs.Prelude.{ap, sym, refl, subst, inl, inr, Bool, true, false, cond, None, Some, same_Some}
+use Rattle.lists.proofs.Prelude.{none-some, List, [], foldr, Memᴰ, Memᴰ-head, Memᴰ-tail, Memᴰ-not-nil}
 use Rattle.lists.proofs.Prelude.{Memᴰ-cases_cons, ℕ, T, length, before}
 use Rattle.lists.proofs.Tests.{T-true, true-T, and_split, and_join}
 use Rattle.lists.proofs.Select.{mem-select}
@@ -92,17 +92,17 @@ fold-Leads x [] = (Memᴰ-head refl, λ y m. only y (Memᴰ-cases_cons m))
     only y (inr m) t = absurd (Memᴰ-not-nil m)
 fold-Leads x (z ∷ zs) = Leads-more x z (foldr lesser x zs) zs (fold-Leads x zs)
 
-least-Leads : (ls : List (List ℕ)) (e : List ℕ) → least ls ≡ some e → Leads ls e
+least-Leads : (ls : List (List ℕ)) (e : List ℕ) → least ls ≡ Some e → Leads ls e
 unfolding least
-least-Leads [] e h = absurd (none-ne-some e h)
-least-Leads (x ∷ xs) e h = subst (Leads (x ∷ xs)) (some-injective (foldr lesser x xs) e h) (fold-Leads x xs)
+least-Leads [] e h = absurd (none-some e h)
+least-Leads (x ∷ xs) e h = subst (Leads (x ∷ xs)) (same_Some (foldr lesser x xs) e h) (fold-Leads x xs)
 
-Leads-least : (ls : List (List ℕ)) (e : List ℕ) → Leads ls e → least ls ≡ some e
+Leads-least : (ls : List (List ℕ)) (e : List ℕ) → Leads ls e → least ls ≡ Some e
 unfolding least
 Leads-least [] e h = absurd (Memᴰ-not-nil h.0)
 Leads-least (x ∷ xs) e h =
     let f = fold-Leads x xs in
-    ap some (before_antisym (foldr lesser x xs) e (h.1 (foldr lesser x xs) f.0) (f.1 e h.0))
+    ap Some (before_antisym (foldr lesser x xs) e (h.1 (foldr lesser x xs) f.0) (f.1 e h.0))
 
 -- ---- the next list
 
@@ -118,7 +118,7 @@ pub record IsNext (ds es : List ℕ) : Type 0 where
 abbrev pub IsLast : List ℕ → Type 0
 IsLast ds = (fs : List ℕ) → Realizable fs → length fs ≡ length ds → T (before ds fs) → ⊥
 
-pub next_iff : (ds es : List ℕ) → (next_list ds ≡ some es) ↔ IsNext ds es
+pub next_iff : (ds es : List ℕ) → (next_list ds ≡ Some es) ↔ IsNext ds es
 unfolding next_list
 next_iff ds es = (
   λ e.
@@ -130,17 +130,17 @@ next_iff ds es = (
       ((later_iff ds es).1 (h.realized, h.equally_long, h.after), λ fs m. let p = (later_iff ds fs).0 m in h.first fs p.0 p.1 p.2),
 )
 
-pub last_iff : (ds : List ℕ) → (next_list ds ≡ none) ↔ IsLast ds
+pub last_iff : (ds : List ℕ) → (next_list ds ≡ None) ↔ IsLast ds
 unfolding next_list least
 last_iff ds = (
   λ e fs r n t. some_later (later ds) fs e ((later_iff ds fs).1 (r, n, t)),
   λ h. none_later (later ds) (λ fs m. let p = (later_iff ds fs).0 m in h fs p.0 p.1 p.2),
 )
   where
-    some_later : (ls : List (List ℕ)) (f : List ℕ) → least ls ≡ none → Memᴰ f ls → ⊥
+    some_later : (ls : List (List ℕ)) (f : List ℕ) → least ls ≡ None → Memᴰ f ls → ⊥
     some_later [] f e m = Memᴰ-not-nil m
-    some_later (x ∷ xs) f e m = none-ne-some (foldr lesser x xs) (sym e)
+    some_later (x ∷ xs) f e m = none-some (foldr lesser x xs) (sym e)
 
-    none_later : (ls : List (List ℕ)) → ((f : List ℕ) → Memᴰ f ls → ⊥) → least ls ≡ none
+    none_later : (ls : List (List ℕ)) → ((f : List ℕ) → Memᴰ f ls → ⊥) → least ls ≡ None
     none_later [] h = refl
     none_later (x ∷ xs) h = absurd (h x (Memᴰ-head refl))

@@ -1,7 +1,7 @@
 -- The walk from zeros on: in the rising list of all realizable lists of a length, the next list of
 -- each is the one behind it, as whatever comes after it stands behind it; and zeros stand first.
 use Rattle.std.specs.Prelude.{◌≡◌, ◌⊎◌, ◌↔◌, ◌∷◌}
-use Rattle.lists.proofs.Prelude.{◌∙◌, ap, sym, refl, subst, inl, inr, none, some, List, [], Memᴰ, Memᴰ-head, Memᴰ-tail}
+use Rattle.lists.proofs.Prelude.{◌∙◌, ap, sym, refl, subst, inl, inr, None, Some, List, [], Memᴰ, Memᴰ-head, Memᴰ-tail}
 use Rattle.lists.proofs.Prelude.{Memᴰ-not-nil, Memᴰ-cases_cons, ℕ, T, length, replicate, length-replicate, select, before}
 use Rattle.lists.proofs.Tests.{T-true}
 use Rattle.lists.proofs.Select.{mem-select}
@@ -16,8 +16,8 @@ use Rattle.catalogue.proofs.Next.{next_iff, last_iff}
 
 -- each list's next one is the one behind it, and the last one has none
 abbrev pub Linked : List ℕ → List (List ℕ) → Type 0
-Linked ds [] = next_list ds ≡ none
-Linked ds (es ∷ ls) = (next_list ds ≡ some es) × Linked es ls
+Linked ds [] = next_list ds ≡ None
+Linked ds (es ∷ ls) = (next_list ds ≡ Some es) × Linked es ls
 
 -- ---- all realizable lists of a length, rising
 

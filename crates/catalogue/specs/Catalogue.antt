@@ -1,7 +1,7 @@
 -- The catalogue of a length: its realizable lists in the order of `before`, each with the next one.
 -- Document 02, 2.1: Order is by the first differing distance, smaller first.
 use Rattle.std.specs.Prelude.{◌↔◌, ◌&&◌, ◌∷◌, ◌<◌, ◌≡◌}
-use Rattle.lists.specs.Prelude.{cond, Option, none, some, List, [], Memᴰ, map, flatten, foldr, ℕ, zero, suc, T, length, get_or}
+use Rattle.lists.specs.Prelude.{cond, Option, None, Some, List, [], Memᴰ, map, flatten, foldr, ℕ, zero, suc, T, length, get_or}
 use Rattle.lists.specs.Prelude.{tabulate, select, before}
 use Rattle.realization.specs.Realization.{Realizable, realizable}
 
@@ -21,8 +21,8 @@ lesser ds es = cond (before ds es) ds es
 
 -- the least of some lists, if there are any
 unfoldable pub least : List (List ℕ) → Option (List ℕ)
-least [] = none
-least (x ∷ xs) = some (foldr lesser x xs)
+least [] = None
+least (x ∷ xs) = Some (foldr lesser x xs)
 
 -- the next list: the least of those that come after it; none after the last one
 unfoldable pub next_list : List ℕ → Option (List ℕ)

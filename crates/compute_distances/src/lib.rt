@@ -2,7 +2,7 @@
 // the links by which the next is sought.
 #![tactic(auto)]
 
-ghost use Rattle.std.specs.Prelude.{◌≡◌, ◌++◌, ◌≤◌, ◌<◌};
+ghost use Rattle.std.specs.Prelude.{◌≡◌, ◌++◌, ◌+◌, ◌≤◌, ◌<◌, MatchOption};
 ghost use Rattle.lists.specs.Prelude.{pos, le_z, length, get_or, take, drop, tabulate};
 ghost use Rattle.cartesian.specs.Cartesian.{seek, distance_at, distances};
 
@@ -14,26 +14,40 @@ fn not_above(values: &[i32], j: usize, i: usize) -> bool
     values[j] <= values[i]
 }
 
-// One more than the place of the parent of place i; 0 where it has none. A place above the value at
-// i is left by its own distance, which `out` has.
-fn seek_parent(values: &[i32], out: &[u32], i: usize) -> usize
+// The place of the parent of place i, if it has one. A place above the value at i is left by its
+// own distance, which `out` has.
+fn find_parent(values: &[i32], out: &[u32], i: usize) -> Option<usize>
     requires i_in_bounds { (i < length values.now) × (i ≤ length out.now) }
     requires out_value { take i out.now ≡ tabulate i (distance_at values.now) }
-    ensures { result ≡ seek values.now (get_or values.now i (pos 0)) i }
+    ensures { MatchOption result (seek values.now (get_or values.now i (pos 0)) i ≡ 0)
+        (λ j. (j < i) × (seek values.now (get_or values.now i (pos 0)) i ≡ j + 1)) }
 {
     let mut k = i;
     while k > 0 {
         let j = k - 1;
         if not_above(values, j, i) {
-            return k;
+            return Some(j);
         }
-        let d = casts::wide(out[j]);
+        let d = out[j] as usize;
         if d == 0 {
-            return 0;
+            return None;
         }
         k -= d;
     }
-    0
+    None
+}
+
+// The parent distance at place i, where `out` has those before it; 0 where i has no parent.
+// No Option: the distance of a place without a parent is 0.
+fn distance(values: &[i32], out: &[u32], i: usize) -> u32
+    requires i_in_bounds { (i < length values.now) × (i ≤ length out.now) × (length values.now ≤ 4294967295) }
+    requires out_value { take i out.now ≡ tabulate i (distance_at values.now) }
+    ensures { result ≡ distance_at values.now i }
+{
+    match find_parent(values, out, i) {
+        Some(j) => (i - j) as u32,
+        None => 0,
+    }
 }
 
 // Writes the distances of `values` to the front of `out`.
@@ -41,15 +55,7 @@ pub fn parent_distances(values: &[i32], out: &mut [u32])
     requires { (length values.now ≤ length out.old) × (length values.now ≤ 4294967295) }
     ensures { out.new ≡ distances values.now ++ drop (length values.now) out.old }
 {
-    let n = values.len();
-    let mut i = 0;
-    while i < n {
-        let k = seek_parent(values, out, i);
-        if k == 0 {
-            out[i] = 0;
-        } else {
-            out[i] = (i + 1 - k) as u32;
-        }
-        i += 1;
+    for i in 0..values.len() {
+        out[i] = distance(values, out, i);
     }
 }

@@ -225,11 +225,3 @@ pub filled : (ds out : List ℕ) (i n : ℕ) → take i out ≡ tabulate i (λ j
 filled ds out i n e h l =
     let s : suc (n - 1) ≡ n = omega arith in
     filled_at 0 (λ j. failure_length ds (suc j)) out i (n - 1) e (omega arith) ∙ ap (failure_length ds) s
-
--- ---- the comparison after the cut, where d was read for v and e for w
-
-pub agrees_inside : (v w m d e : ℕ) → d ≡ v → e ≡ w → d ≤ m → eqb d e ≡ eqb (cut m v) w
-agrees_inside v w m d e p q h = rw (← p, ← q, le-leb d m h) refl
-
-pub agrees_outside : (v w m d e : ℕ) → d ≡ v → e ≡ w → m < d → eqb 0 e ≡ eqb (cut m v) w
-agrees_outside v w m d e p q h = rw (← p, ← q, lt-leb d m h) refl

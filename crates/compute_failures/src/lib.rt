@@ -13,8 +13,8 @@ fn agrees(ds: &[u32], i: usize, m: usize) -> bool
     requires { (i < length ds.now) × (m < length ds.now) }
     ensures { result ≡ eqb (cut m (get_or ds.now i 0)) (get_or ds.now m 0) }
 {
-    let d = casts::wide(ds[i]);
-    let e = casts::wide(ds[m]);
+    let d = ds[i] as usize;
+    let e = ds[m] as usize;
     if d <= m { d == e } else { 0 == e }
 }
 
@@ -30,12 +30,12 @@ fn next_length(ds: &[u32], out: &[u32], i: usize) -> usize
     if i == 0 {
         return 0;
     }
-    let mut m = casts::wide(out[i - 1]);
+    let mut m = out[i - 1] as usize;
     while m > 0 {
         if agrees(ds, i, m) {
             return m + 1;
         }
-        m = casts::wide(out[m - 1]);
+        m = out[m - 1] as usize;
     }
     1
 }
@@ -46,11 +46,7 @@ pub fn failure_lengths(ds: &[u32], out: &mut [u32])
     requires ds_len_bound { (length ds.now ≤ 256) × (length ds.now ≤ length out.old) }
     ensures { out.new ≡ failure_lengths ds.now ++ drop (length ds.now) out.old }
 {
-    let n = ds.len();
-    let mut i = 0;
-    while i < n {
-        let m = next_length(ds, out, i);
-        out[i] = m as u32;
-        i += 1;
+    for i in 0..ds.len() {
+        out[i] = next_length(ds, out, i) as u32;
     }
 }

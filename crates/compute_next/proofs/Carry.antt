@@ -12,7 +12,7 @@ use Rattle.realization.proofs.Realizable.{realizable_iff}
 use Rattle.realization.proofs.Walk.{realizable-walk, walk_zeros}
 use Rattle.compute_realization.specs.OpenDistances.{open_distances, Led}
 use Rattle.catalogue.proofs.Next.{IsNext, IsLast}
-use Rattle.compute_next.specs.Raised.{IsRaised}
+use Rattle.compute_next.specs.Raised.{IsLeastAbove, NoneAbove}
 use Rattle.compute_next.specs.Change.{replaced}
 
 -- a list whose first distance leads to an open place, and whose rest is accepted from there on
@@ -37,14 +37,14 @@ open_leads os (suc f) h e = T-true (any (eqb (suc f)) os) e
 
 abbrev pub Stuck : List ℕ → List ℕ → Type 0
 Stuck os [] = Unit {0}
-Stuck os (d ∷ ds) = IsRaised os d 0 × Stuck (opened d os) ds
+Stuck os (d ∷ ds) = NoneAbove os d × Stuck (opened d os) ds
 
 -- nothing can be raised behind the end
 pub Stuck-none : (ds : List ℕ) → Stuck (open_distances ds (length ds)) (drop (length ds) ds)
 Stuck-none ds = rw (drop_of_length-le ds {i = length ds} (omega arith)) tt
 
 -- one place more where nothing can be raised
-pub Stuck-more : (ds : List ℕ) (i : ℕ) → i < length ds → IsRaised (open_distances ds i) (get_or ds i 0) 0 → Stuck (open_distances ds (suc i)) (drop (suc i) ds)
+pub Stuck-more : (ds : List ℕ) (i : ℕ) → i < length ds → NoneAbove (open_distances ds i) (get_or ds i 0) → Stuck (open_distances ds (suc i)) (drop (suc i) ds)
     → Stuck (open_distances ds i) (drop i ds)
 unfolding open_distances
 Stuck-more ds i h r s = rw (drop-cons ds i 0 h) (r, s)
@@ -58,7 +58,7 @@ Stuck-last os (d ∷ ds) (f ∷ fs) s w e t = go (before_cases d ds f fs t) (wal
   where
     go : (d < f) ⊎ ((d ≡ f) × T (before ds fs)) → T (leads f os) × T (walk (opened f os) fs)
         → (T (walk (opened d os) fs) → length fs ≡ length ds → T (before ds fs) → ⊥) → ⊥
-    go (inl h) p ih = let q = s.0.least f h (leads_open os d f h p.0) in omega (arith, q.0)
+    go (inl h) p ih = s.0 f h (leads_open os d f h p.0)
     go (inr q) p ih = ih (subst (λ (k : ℕ). T (walk (opened k os) fs)) (sym q.0) p.1) (omega arith) q.1
 
 -- ---- the next list of those that are accepted
@@ -70,12 +70,12 @@ record Follows (os ds es : List ℕ) : Type 0 where
   first : (fs : List ℕ) → T (walk os fs) → length fs ≡ length ds → T (before ds fs) → T (before fs es) → ⊥
 
 -- the first distance is raised
-raised-Follows : (os : List ℕ) (d : ℕ) (ds : List ℕ) (e : ℕ) → 0 < e → IsRaised os d e → Stuck (opened d os) ds
+raised-Follows : (os : List ℕ) (d : ℕ) (ds : List ℕ) (e : ℕ) → IsLeastAbove os d e → Stuck (opened d os) ds
     → Follows os (d ∷ ds) (e ∷ replicate (length ds) 0)
-raised-Follows os d ds e h r s = record {
-  accepted = cons-walk os e (replicate (length ds) 0) (open_leads os e h (r.above h).1) (T-true _ (walk_zeros (opened e os) (length ds)));
+raised-Follows os d ds e r s = record {
+  accepted = cons-walk os e (replicate (length ds) 0) (open_leads os e (omega (arith, r.above)) r.listed) (T-true _ (walk_zeros (opened e os) (length ds)));
   equally_long = ap suc (length-replicate (length ds) 0);
-  after = before_first d ds e (replicate (length ds) 0) (r.above h).0;
+  after = before_first d ds e (replicate (length ds) 0) r.above;
   first = first;
 }
   where
@@ -90,7 +90,7 @@ raised-Follows os d ds e h r s = record {
         n = omega arith
 
         go : (d < f) ⊎ ((d ≡ f) × T (before ds fs)) → (f < e) ⊎ ((f ≡ e) × T (before fs (replicate (length ds) 0))) → ⊥
-        go (inl a) (inl b) = omega (arith, (r.least f a (leads_open os d f a p.0)).1)
+        go (inl a) (inl b) = omega (arith, r.least f a (leads_open os d f a p.0))
         go (inl a) (inr b) = before_zeros fs (subst (λ (k : ℕ). T (before fs (replicate k 0))) (sym n) b.1)
         go (inr a) b = Stuck-last (opened d os) ds fs s (subst (λ (k : ℕ). T (walk (opened k os) fs)) (sym a.0) p.1) n a.1
 
@@ -133,12 +133,12 @@ accepts fs r = subst T (realizable-walk fs) ((realizable_iff fs).1 r)
 pub Stuck-IsLast : (ds : List ℕ) → Stuck [] ds → IsLast ds
 Stuck-IsLast ds s fs r e t = Stuck-last [] ds fs s (accepts fs r) e t
 
-pub raised-IsNext : (ds : List ℕ) (i e : ℕ) → i < length ds → Led ds (length ds) → 0 < e → IsRaised (open_distances ds i) (get_or ds i 0) e
+pub raised-IsNext : (ds : List ℕ) (i e : ℕ) → i < length ds → Led ds (length ds) → IsLeastAbove (open_distances ds i) (get_or ds i 0) e
     → Stuck (open_distances ds (suc i)) (drop (suc i) ds) → IsNext ds (replaced ds i e)
 unfolding open_distances
-raised-IsNext ds i e h l k r s =
+raised-IsNext ds i e h l r s =
     let os = open_distances ds i in
-    let p = raised-Follows os (get_or ds i 0) (drop (suc i) ds) e k r s in
+    let p = raised-Follows os (get_or ds i 0) (drop (suc i) ds) e r s in
     let n : length (drop (suc i) ds) ≡ length ds - suc i = length-drop (suc i) ds in
     let q = front-Follows ds i (e ∷ replicate (length ds - suc i) 0) (omega arith) l
     (subst (λ (m : ℕ). Follows os (drop i ds) (e ∷ replicate m 0)) n

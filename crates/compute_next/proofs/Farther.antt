@@ -8,18 +8,18 @@ use Rattle.realization.specs.Realization.{realizable}
 use Rattle.realization.specs.Walk.{leads}
 use Rattle.compute_realization.specs.OpenDistances.{open_distances}
 use Rattle.compute_realization.proofs.OpenDistances.{one_open, opened_none, opened_kept, opened_shut, open_le, open_through, lead_some, led_le, realizable-Led}
-use Rattle.compute_next.specs.Raised.{IsRaised}
+use Rattle.compute_next.specs.Raised.{IsLeastAbove, NoneAbove}
 
 -- nothing is open before the first place
-pub raised_first : (ds : List ℕ) (i d : ℕ) → i ≡ 0 → IsRaised (open_distances ds i) d 0
+pub raised_first : (ds : List ℕ) (i d : ℕ) → i ≡ 0 → NoneAbove (open_distances ds i) d
 unfolding open_distances any
-raised_first ds i d z = rw z (record { above = λ h. absurd (let y : ⊥ = omega arith in y); least = λ f h e. clash e refl })
+raised_first ds i d z = rw z (λ f h e. clash e refl)
 
 -- above 0 is 1
-pub raised_one : (ds : List ℕ) (i d : ℕ) → (i ≡ 0 → ⊥) → d ≡ 0 → IsRaised (open_distances ds i) d 1
+pub raised_one : (ds : List ℕ) (i d : ℕ) → (i ≡ 0 → ⊥) → d ≡ 0 → IsLeastAbove (open_distances ds i) d 1
 unfolding open_distances
 raised_one ds zero d h z = absurd (h refl)
-raised_one ds (suc i) d h z = record { above = λ k. (omega arith, open_one); least = λ f k e. (omega arith, omega arith) }
+raised_one ds (suc i) d h z = record { above = omega arith; listed = open_one; least = λ f k e. omega arith }
   where
     open_one : any (eqb 1) (open_distances ds (suc i)) ≡ true
     open_one = one_open (get_or ds i 0) (open_distances ds i)
@@ -43,11 +43,11 @@ module _ (ds : List ℕ) (i d : ℕ) (r : realizable ds ≡ true) (h : i < lengt
       (le, rw (← b) (sym (open_through ds i (i - d) (i - f) (omega (arith, led.0)) (omega arith) led.1) ∙ (rw a e)))
 
   -- the place that it leads to has no parent: nothing before it is open
-  pub raised_none : (e : ℕ) → e ≡ get_or ds (i - d) 0 → e ≡ 0 → IsRaised (open_distances ds i) (get_or ds i 0) 0
+  pub raised_none : (e : ℕ) → e ≡ get_or ds (i - d) 0 → e ≡ 0 → NoneAbove (open_distances ds i) (get_or ds i 0)
   unfolding open_distances
-  raised_none e q y = rw (← p) (record { above = λ k. absurd (let x : ⊥ = omega arith in x); least = none })
+  raised_none e q y = rw (← p) none
     where
-      none : (f : ℕ) → d < f → any (eqb f) (open_distances ds i) ≡ true → (0 < 0) × (0 ≤ f)
+      none : (f : ℕ) → d < f → any (eqb f) (open_distances ds i) ≡ true → ⊥
       none f k o =
           let g = farther f k o in
           clash (rw (← q, y) at g.1) (opened_none (f - d) (open_distances ds (i - d)) (omega arith))
@@ -78,5 +78,5 @@ module _ (ds : List ℕ) (i d : ℕ) (r : realizable ds ≡ true) (h : i < lengt
         go (yes m) = clash (rw (← q) at (farther f k o).1) (opened_shut e (f - d) (open_distances ds (i - d)) (omega arith) m)
         go (no m) = omega arith
 
-    pub raised_more : (e ≡ 0 → ⊥) → IsRaised (open_distances ds i) (get_or ds i 0) (get_or ds i 0 + e)
-    raised_more y = rw (← p) (record { above = λ k. (omega arith, ahead y); least = λ f k o. (omega arith, nearest f k o) })
+    pub raised_more : (e ≡ 0 → ⊥) → IsLeastAbove (open_distances ds i) (get_or ds i 0) (get_or ds i 0 + e)
+    raised_more y = rw (← p) (record { above = omega arith; listed = ahead y; least = nearest })

@@ -1,7 +1,7 @@
 -- The prefix child of a place is the root of its left part, and a walk along the links finds it:
 -- it is the last place of the left part that leads to no place of it.
 use Rattle.std.specs.Prelude.{◌≡◌, ◌⊎◌, ◌+◌, ◌-◌, ◌≤◌, ◌<◌}
-use Rattle.lists.proofs.Prelude.{◌∙◌, ap, refl, inl, inr, Option, none, some, ℕ, zero, suc, get_or, arith}
+use Rattle.lists.proofs.Prelude.{◌∙◌, ap, refl, inl, inr, Option, None, Some, ℕ, zero, suc, get_or, arith}
 use Rattle.lists.proofs.Places.{Place, before, here, after, place}
 use Rattle.cartesian.specs.Cartesian.{Tree, leaf, node, size}
 use Rattle.global_parents.specs.GlobalParents.{root_of}
@@ -20,7 +20,7 @@ pub record RootOfPart (d : ℕ → ℕ) (b j c : ℕ) : Type 0 where
 -- the part from b to before j is empty and there is no child, or the child is the part's root; a is
 -- the first place of the tree
 abbrev pub ChildOfPart : (ℕ → ℕ) → ℕ → ℕ → ℕ → Option ℕ → Type 0
-ChildOfPart d a b j o = ((b ≡ j) × (o ≡ none)) ⊎ ((c : ℕ) × (o ≡ some (a + c)) × RootOfPart d b j c)
+ChildOfPart d a b j o = ((b ≡ j) × (o ≡ None)) ⊎ ((c : ℕ) × (o ≡ Some (a + c)) × RootOfPart d b j c)
 
 -- only the distances before j count
 same_part : (d e : ℕ → ℕ) (a b j : ℕ) (o : Option ℕ) → ((i : ℕ) → i < j → e i ≡ d i) → ChildOfPart d a b j o → ChildOfPart e a b j o
@@ -54,7 +54,7 @@ root_of_left : (l r : Tree) (a : ℕ) → ChildOfPart (distance (node l r)) a 0 
 unfolding size
 root_of_left leaf r a = inl (refl, refl)
 root_of_left (node l m) r a =
-    same_part (distance (node l m)) (distance (node (node l m) r)) a 0 (size (node l m)) (some (a + size l)) (distance_left (node l m) r)
+    same_part (distance (node l m)) (distance (node (node l m) r)) a 0 (size (node l m)) (Some (a + size l)) (distance_left (node l m) r)
     (inr (size l, refl, root_of_node l m))
 
 -- the left part of a place on the right of a root, with the places counted from the first of the
@@ -85,7 +85,7 @@ part_right l r a b k o h (inl p) = inl (omega (arith, p.0), p.1)
 part_right l r a b k o h (inr (c, q, p)) =
     inr (
       size l + suc c,
-      q ∙ ap some (omega arith),
+      q ∙ ap Some (omega arith),
       record {
         first = omega (arith, p.first);
         last = omega (arith, p.last);
@@ -98,21 +98,21 @@ part_right l r a b k o h (inr (c, q, p)) =
     )
 
 -- the left child of place j of a tree, by its left part
-pub left_child : (t : Tree) (a j : ℕ) → j < size t → ChildOfPart (distance t) a (after_link j (distance t j)) j (get_or (left_children a t) j none)
+pub left_child : (t : Tree) (a j : ℕ) → j < size t → ChildOfPart (distance t) a (after_link j (distance t j)) j (get_or (left_children a t) j None)
 unfolding size
 left_child leaf a j h = absurd (let z : ⊥ = omega arith in z)
 left_child (node l r) a j h = go j (place (size l) (size r) j h) (left_child l a) (left_child r (suc (a + size l)))
   where
     go : (j : ℕ) → Place (size l) (size r) j
-        → ((k : ℕ) → k < size l → ChildOfPart (distance l) a (after_link k (distance l k)) k (get_or (left_children a l) k none))
+        → ((k : ℕ) → k < size l → ChildOfPart (distance l) a (after_link k (distance l k)) k (get_or (left_children a l) k None))
         → ((k : ℕ) → k < size r → ChildOfPart (distance r) (suc (a + size l)) (after_link k (distance r k)) k
-        (get_or (left_children (suc (a + size l)) r) k none))
-        → ChildOfPart (distance (node l r)) a (after_link j (distance (node l r) j)) j (get_or (left_children a (node l r)) j none)
+        (get_or (left_children (suc (a + size l)) r) k None))
+        → ChildOfPart (distance (node l r)) a (after_link j (distance (node l r) j)) j (get_or (left_children a (node l r)) j None)
     go j (before h) hl hr =
         rw (child_left a l r j h, distance_left l r j h)
-        (same_part (distance l) (distance (node l r)) a (after_link j (distance l j)) j (get_or (left_children a l) j none)
+        (same_part (distance l) (distance (node l r)) a (after_link j (distance l j)) j (get_or (left_children a l) j None)
         (λ i k. distance_left l r i (omega arith)) (hl j h))
     go _ here hl hr = rw (child_root a l r, distance_root l r) (root_of_left l r a)
     go _ (after k h) hl hr =
         rw (child_right a l r k, after_right l r k (distance-le r k h) (right_distance l r k h))
-        (part_right l r a (after_link k (distance r k)) k (get_or (left_children (suc (a + size l)) r) k none) h (hr k h))
+        (part_right l r a (after_link k (distance r k)) k (get_or (left_children (suc (a + size l)) r) k None) h (hr k h))

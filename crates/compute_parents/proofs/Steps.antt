@@ -1,8 +1,8 @@
 -- One place more: what place j tells changes the parents that the places below j tell into those
 -- that the places up to j tell, and the parents that all places tell are the global parents.
-use Rattle.std.specs.Prelude.{◌≡◌, ◌&&◌, ◌++◌, ◌+◌, ◌-◌, ◌≤◌, ◌<◌}
-use Rattle.lists.proofs.Prelude.{◌∙◌, ap, sym, refl, subst, true, false, Option, none, some, List, ℕ, zero, suc, eqb, ltb}
-use Rattle.lists.proofs.Prelude.{ltb→lt, length, get_or, drop, set, length-append, length-drop, set-append_left, add-one, arith, eq-eqb, ne_eqb}
+use Rattle.std.specs.Prelude.{◌≡◌, ◌&&◌, ◌++◌, ◌+◌, ◌-◌, ◌<◌}
+use Rattle.lists.proofs.Prelude.{◌∙◌, ap, sym, refl, true, false, Option, None, Some, List, ℕ, zero, suc, eqb, ltb}
+use Rattle.lists.proofs.Prelude.{ltb→lt, length, get_or, drop, set, set-append_left, add-one, arith, eq-eqb, ne_eqb}
 use Rattle.lists.proofs.Prelude.{lt-ltb, tabulate}
 use Rattle.lists.proofs.Prelude.{last_below}
 use Rattle.lists.proofs.Tests.{and_split, and-false}
@@ -10,8 +10,8 @@ use Rattle.lists.proofs.LastBelow.{last_below-zero}
 use Rattle.lists.proofs.Tables.{length-tabulate, tabulate_ext, tabulate_more, tabulate-set}
 use Rattle.realization.specs.Realization.{realizable}
 use Rattle.global_parents.specs.GlobalParents.{is_prefix_child, global_parent, global_parents}
-use Rattle.compute_parents.specs.Steps.{left_start, is_root_from, prefix_child, stored_at, with_place, parent_below}
-use Rattle.compute_parents.proofs.Walk.{child_none, child_some, child_lt}
+use Rattle.compute_parents.specs.Steps.{prefix_child, stored_at, with_place, parent_below}
+use Rattle.compute_parents.proofs.Walk.{child_lt}
 
 -- all places tell the global parent
 parent_below_all : (ds : List ℕ) (i : ℕ) → parent_below ds (length ds) i ≡ global_parent ds i
@@ -46,11 +46,11 @@ is_not_child ds j i e =
     let q : ltb i j && is_prefix_child ds i j ≡ false = rw e (and-false (ltb i j)) in
     rw (add-one j, q) refl
 
-prefix_none : (ds : List ℕ) (j i : ℕ) → prefix_child ds j ≡ none → is_prefix_child ds i j ≡ false
+prefix_none : (ds : List ℕ) (j i : ℕ) → prefix_child ds j ≡ None → is_prefix_child ds i j ≡ false
 unfolding is_prefix_child
 prefix_none ds j i e = rw e refl
 
-prefix_some : (ds : List ℕ) (j c i : ℕ) → prefix_child ds j ≡ some c → is_prefix_child ds i j ≡ eqb c i
+prefix_some : (ds : List ℕ) (j c i : ℕ) → prefix_child ds j ≡ Some c → is_prefix_child ds i j ≡ eqb c i
 unfolding is_prefix_child
 prefix_some ds j c i e = rw e refl
 
@@ -62,9 +62,6 @@ pub parents_none : (ds d : List ℕ) → d ≡ parents_below ds 0 d
 unfolding tabulate
 parents_none ds d = refl
 
-pub length-parents_below : (ds : List ℕ) (j : ℕ) (d : List ℕ) → j ≤ length d → length (parents_below ds j d) ≡ length d
-length-parents_below ds j d h = simp (length-append, length-tabulate, length-drop) (omega arith)
-
 pub place_more : (ds : List ℕ) (j : ℕ) (d : List ℕ) → realizable ds ≡ true → j < length ds → j < length d
     → with_place ds j (parents_below ds j d) ≡ parents_below ds (j + 1) d
 unfolding with_place
@@ -74,11 +71,11 @@ place_more ds j d r h k =
   where
     go : (o : Option ℕ) → prefix_child ds j ≡ o → set (parents_below ds j d) j (j - get_or ds j 0) ≡ tabulate (j + 1) (parent_below ds j) ++ drop (j + 1) d
         → stored_at o j (set (parents_below ds j d) j (j - get_or ds j 0)) ≡ parents_below ds (j + 1) d
-    go none e m =
+    go None e m =
         m
         ∙ ap (λ (l : List ℕ). l ++ drop (j + 1) d)
         (tabulate_ext (j + 1) (parent_below ds j) (parent_below ds (j + 1)) (λ i _. is_not_child ds j i (prefix_none ds j i e)))
-    go (some c) e m =
+    go (Some c) e m =
         let l : c < j = child_lt ds j c r h e in
         ap (λ (l : List ℕ). set l c j) m
         ∙ set-append_left (tabulate (j + 1) (parent_below ds j)) (drop (j + 1) d) c j (rw length-tabulate (omega arith))
@@ -86,17 +83,3 @@ place_more ds j d r h k =
         (tabulate-set (parent_below ds j) (parent_below ds (j + 1)) (j + 1) c j (omega arith)
         (is_child ds j c l (prefix_some ds j c c e ∙ eq-eqb c c refl))
         (λ i _ q. is_not_child ds j i (prefix_some ds j c i e ∙ ne_eqb c i (λ s. q (sym s)))))
-
--- ---- the ways through the stores for one place
-
-pub stored_alone : (ds : List ℕ) (j : ℕ) (out : List ℕ) (u s : ℕ) → realizable ds ≡ true → j < length ds → u ≡ j - get_or ds j 0 → s ≡ left_start ds j
-    → j ≤ s → set out j u ≡ with_place ds j out
-unfolding with_place
-stored_alone ds j out u s r h e f l = rw (child_none ds j r h (subst (λ (n : ℕ). j ≤ n) f l), e) refl
-
-pub stored_child : (ds : List ℕ) (j : ℕ) (out : List ℕ) (u s k : ℕ) → realizable ds ≡ true → j < length ds → u ≡ j - get_or ds j 0 → s ≡ left_start ds j
-    → s < j → k + 1 ≡ last_below (is_root_from ds s) j
-    → set (set out j u) k j ≡ with_place ds j out
-unfolding with_place
-stored_child ds j out u s k r h e f l q =
-    rw (child_some ds j k r h (subst (λ (n : ℕ). n < j) f l) (q ∙ ap (λ (n : ℕ). last_below (is_root_from ds n) j) f), e) refl

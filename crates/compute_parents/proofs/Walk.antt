@@ -1,17 +1,17 @@
 -- The walk to a prefix child, for realizable distances: each link skips only places that lead into
 -- the part, so the first place that leads out of it is its root.
 use Rattle.std.specs.Prelude.{◌≡◌, ◌⊎◌, ◌||◌, ◌+◌, ◌-◌, ◌≤◌, ◌<◌}
-use Rattle.lists.proofs.Prelude.{◌∙◌, ap, sym, refl, subst, inl, inr, Bool, true, false, none, some, some-injective, none-ne-some}
-use Rattle.lists.proofs.Prelude.{List, ℕ, zero, suc, T, eqb, ltb, length, get_or, add-one, dec_lt, arith, eq-eqb, ne_eqb, lt-ltb, le-ltb}
+use Rattle.lists.proofs.Prelude.{◌∙◌, ap, sym, refl, subst, inl, inr, Bool, true, false, None, Some, same_Some, none-some}
+use Rattle.lists.proofs.Prelude.{List, ℕ, suc, T, eqb, ltb, length, get_or, add-one, dec_lt, arith, eq-eqb, ne_eqb, lt-ltb, le-ltb}
 use Rattle.lists.proofs.Prelude.{ltb-false, last_below}
 use Rattle.lists.proofs.Tests.{T-true, not_zero}
-use Rattle.lists.proofs.LastBelow.{last_below-le, last_below_is, last_below_skip}
+use Rattle.lists.proofs.LastBelow.{last_below_is, last_below_skip}
 use Rattle.cartesian.specs.Cartesian.{Tree, size}
 use Rattle.cartesian.proofs.Structure.{tree_distances, length-tree_distances}
 use Rattle.realization.specs.Realization.{realizable}
 use Rattle.realization.proofs.Realizable.{realizable_tree}
 use Rattle.global_parents.proofs.Prefix.{tree_of-take, last_prefix}
-use Rattle.compute_parents.specs.Steps.{after_link, left_start, is_root_from, prefix_child}
+use Rattle.compute_parents.specs.Steps.{left_start, is_root_from, prefix_child}
 use Rattle.compute_parents.proofs.Links.{distance, distance-le, nested}
 use Rattle.compute_parents.proofs.LeftPart.{RootOfPart, ChildOfPart, left_child}
 
@@ -35,36 +35,15 @@ no_root d b k e = go (eqb d 0) refl e
     go true q r = absurd (subst T r tt)
     go false q r = (not_zero d q, ltb-false k (b + d) r)
 
--- the test and the left part's first place, by the distance r that was read
-pub root_none : (r d b k : ℕ) → r ≡ d → r ≡ 0 → true ≡ eqb d 0 || ltb k (b + d)
-root_none r d b k e z = sym (root_yes d b k (inl (sym e ∙ z)))
-
-pub root_some : (r d b k : ℕ) → r ≡ d → (r ≡ 0 → ⊥) → ltb k (b + r) ≡ eqb d 0 || ltb k (b + d)
-root_some r d b k e f = rw (e, ne_eqb d 0 (λ z. f (e ∙ z))) refl
-
-pub start_none : (r d j : ℕ) → r ≡ d → r ≡ 0 → 0 ≡ after_link j d
-start_none r zero j e z = refl
-start_none r (suc d) j e z = omega arith
-
-pub start_some : (r d j : ℕ) → r ≡ d → (r ≡ 0 → ⊥) → j + 1 - r ≡ after_link j d
-start_some r zero j e f = absurd (f e)
-start_some r (suc d) j e f = omega arith
-
 -- a place that leads into the part
 pub leads_on : (ds : List ℕ) (b k : ℕ) → is_root_from ds b k ≡ false → (0 < get_or ds k 0) × (b + get_or ds k 0 ≤ k)
 leads_on ds b k e = no_root (get_or ds k 0) b k e
 
 -- ---- the ways through the walk
 
-pub walk_starts : (test : ℕ → Bool) (j : ℕ) → 0 < j → last_below test j ≡ last_below test (j - 1 + 1)
-walk_starts test j h = ap (last_below test) (omega arith)
-
 pub walk_ends : (test : ℕ → Bool) (k : ℕ) → test k ≡ true → k + 1 ≡ last_below test (k + 1)
 unfolding last_below
 walk_ends test k e = rw (add-one k, e) refl
-
-pub found_lt : (test : ℕ → Bool) (j k : ℕ) → k + 1 ≡ last_below test j → k < j
-found_lt test j k e = omega (arith, last_below-le test j)
 
 walk_tree : (t : Tree) (b k : ℕ) → k < size t → is_root_from (tree_distances t) b k ≡ false
     → last_below (is_root_from (tree_distances t) b) (k + 1) ≡ last_below (is_root_from (tree_distances t) b) (k - distance t k + 1)
@@ -112,36 +91,29 @@ walk_finds ds b j c p =
     let n = p.inner i l h in
     subst T (root_no (get_or ds i 0) b i n.0 n.1) t)
 
-pub start_le : (ds : List ℕ) (j : ℕ) → left_start ds j ≤ j
-start_le ds j = go (get_or ds j 0)
-  where
-    go : (d : ℕ) → after_link j d ≤ j
-    go zero = omega arith
-    go (suc d) = omega arith
-
 -- an empty left part has no child
-pub child_none : (ds : List ℕ) (j : ℕ) → realizable ds ≡ true → j < length ds → j ≤ left_start ds j → prefix_child ds j ≡ none
+pub child_none : (ds : List ℕ) (j : ℕ) → realizable ds ≡ true → j < length ds → j ≤ left_start ds j → prefix_child ds j ≡ None
 child_none ds j r h l = go (prefix_child_lem ds j r h)
   where
-    go : ChildOfPart (λ k. get_or ds k 0) 0 (left_start ds j) j (prefix_child ds j) → prefix_child ds j ≡ none
+    go : ChildOfPart (λ k. get_or ds k 0) 0 (left_start ds j) j (prefix_child ds j) → prefix_child ds j ≡ None
     go (inl p) = p.1
     go (inr (c, q, p)) = absurd (let z : ⊥ = omega (arith, p.first, p.last) in z)
 
 -- any other has the one that the walk finds
 pub child_some : (ds : List ℕ) (j k : ℕ) → realizable ds ≡ true → j < length ds → left_start ds j < j
-    → k + 1 ≡ last_below (is_root_from ds (left_start ds j)) j → prefix_child ds j ≡ some k
+    → k + 1 ≡ last_below (is_root_from ds (left_start ds j)) j → prefix_child ds j ≡ Some k
 child_some ds j k r h l e = go (prefix_child_lem ds j r h)
   where
-    go : ChildOfPart (λ k. get_or ds k 0) 0 (left_start ds j) j (prefix_child ds j) → prefix_child ds j ≡ some k
+    go : ChildOfPart (λ k. get_or ds k 0) 0 (left_start ds j) j (prefix_child ds j) → prefix_child ds j ≡ Some k
     go (inl p) = absurd (let z : ⊥ = omega (arith, p.0) in z)
-    go (inr (c, q, p)) = q ∙ ap some (let s = walk_finds ds (left_start ds j) j c p in omega arith)
+    go (inr (c, q, p)) = q ∙ ap Some (let s = walk_finds ds (left_start ds j) j c p in omega arith)
 
 -- a prefix child is before its parent
-pub child_lt : (ds : List ℕ) (j c : ℕ) → realizable ds ≡ true → j < length ds → prefix_child ds j ≡ some c → c < j
+pub child_lt : (ds : List ℕ) (j c : ℕ) → realizable ds ≡ true → j < length ds → prefix_child ds j ≡ Some c → c < j
 child_lt ds j c r h e = go (prefix_child_lem ds j r h)
   where
     go : ChildOfPart (λ k. get_or ds k 0) 0 (left_start ds j) j (prefix_child ds j) → c < j
-    go (inl p) = absurd (none-ne-some c (sym p.1 ∙ e))
+    go (inl p) = absurd (none-some c (sym p.1 ∙ e))
     go (inr (i, q, p)) =
-        let s : 0 + i ≡ c = some-injective (0 + i) c (sym q ∙ e) in
+        let s : 0 + i ≡ c = same_Some (0 + i) c (sym q ∙ e) in
         omega (arith, p.last)

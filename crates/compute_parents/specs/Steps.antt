@@ -1,7 +1,7 @@
 -- What one step of the computation of global parents finds and stores, for a list of parent
 -- distances.
 use Rattle.std.specs.Prelude.{◌&&◌, ◌||◌, ◌+◌, ◌-◌}
-use Rattle.lists.specs.Prelude.{Bool, Option, none, some, List, ℕ, zero, suc, eqb, ltb, get_or, take, set, last_below}
+use Rattle.lists.specs.Prelude.{Bool, Option, None, Some, List, ℕ, zero, suc, eqb, ltb, get_or, take, set, last_below}
 use Rattle.cartesian.specs.Cartesian.{tree_of}
 use Rattle.global_parents.specs.GlobalParents.{last_left_child, is_prefix_child}
 
@@ -24,8 +24,8 @@ prefix_child ds j = last_left_child 0 (tree_of (take (suc j) ds))
 
 -- the list with j stored at a child, where there is one
 abbrev pub stored_at : Option ℕ → ℕ → List ℕ → List ℕ
-stored_at none j out = out
-stored_at (some c) j out = set out c j
+stored_at None j out = out
+stored_at (Some c) j out = set out c j
 
 -- the list with what place j tells: the place that j leads to as its parent, and j as the parent of
 -- its prefix child

@@ -17,7 +17,7 @@ fn is_open(ds: &[u32], i: usize, target: usize) -> bool
 {
     let mut j = i - 1;
     while j > target {
-        let d = casts::wide(ds[j]);
+        let d = ds[j] as usize;
         if d == 0 {
             return false;
         }
@@ -32,7 +32,7 @@ fn leads_back(ds: &[u32], i: usize, near: u64) -> bool
     requires { (i < length ds.now) × Led ds.now i × OpenBits near (open_distances ds.now i) }
     ensures { result ≡ leads (get_or ds.now i 0) (open_distances ds.now i) }
 {
-    let d = casts::wide(ds[i]);
+    let d = ds[i] as usize;
     if d < 64 {
         return bit_sets::has(near, d);
     }
@@ -65,21 +65,19 @@ fn near_after(near: u64, d: usize) -> u64
 pub fn is_realizable(ds: &[u32]) -> bool
     ensures { result ≡ realizable ds.now }
 {
-    let n = ds.len();
     let mut near = 1u64;
-    let mut i = 0;
-    while i < n {
+    for i in 0..ds.len() {
         if !leads_back(ds, i, near) {
             return false;
         }
-        near = near_after(near, casts::wide(ds[i]));
-        i += 1;
+        near = near_after(near, ds[i] as usize);
     }
     true
 }
 
 // The first place after i whose distance is 0 or leads before i, which is where the next lower
 // value is; the length where there is none. next holds the same of every place after i.
+// No Option: `next`, an array of fixed size, keeps the same numbers, and the length ends the walk.
 fn next_lower(ds: &[u32], next: &[u32; 256], i: usize) -> usize
     requires i_in_bounds { (i < length ds.now) × (length ds.now ≤ 256) }
     requires by_index { (k : ℕ) → i < k → k < length ds.now → IsNext ds.now k (get_or next.now k 0) }
@@ -88,14 +86,14 @@ fn next_lower(ds: &[u32], next: &[u32; 256], i: usize) -> usize
     let n = ds.len();
     let mut j = i + 1;
     while j < n {
-        let d = casts::wide(ds[j]);
+        let d = ds[j] as usize;
         if d == 0 {
             return j;
         }
         if d > j - i {
             return j;
         }
-        j = casts::wide(next[j]);
+        j = next[j] as usize;
     }
     j
 }
@@ -116,9 +114,7 @@ pub fn least_realization(ds: &[u32], out: &mut [i32])
 {
     let n = ds.len();
     let mut next = [0u32; 256];
-    let mut i = n;
-    while i > 0 {
-        i -= 1;
+    for i in (0..n).rev() {
         let j = next_lower(ds, &next, i);
         next[i] = j as u32;
         if j < n {

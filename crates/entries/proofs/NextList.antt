@@ -1,7 +1,7 @@
 -- The entry that goes to the next list: what a call tells and leaves, by the first of its
 -- conditions that is met, in the words of the code's tests; and back, which list a call tells of.
 use Rattle.std.specs.Prelude.{◌≡◌, ◌++◌, ◌≤◌, ◌<◌}
-use Rattle.lists.proofs.Prelude.{◌∙◌, ap, sym, Bool, true, false, cond, Option, none, some, List, ℕ, ltb, length, drop, eq-eqb, ne_eqb}
+use Rattle.lists.proofs.Prelude.{◌∙◌, ap, sym, Bool, true, false, cond, Option, None, Some, List, ℕ, ltb, length, drop, eq-eqb, ne_eqb}
 use Rattle.lists.proofs.Prelude.{lt-ltb, refl, take, take_at, le-ltb, arith}
 use Rattle.answers.specs.declared.Refusal.{Refusal}
 use Rattle.realization.specs.Realization.{realizable}
@@ -36,45 +36,45 @@ module _ (ds out : List ℕ) where
         simp (ne_eqb (length ds) 0 (λ e. omega arith), le-ltb 256 (length ds) (omega arith), le-ltb 10 (length ds) k, r)
         (ap (λ (n : Option (List ℕ)). cond (ltb (length out) (length (next_words n))) 10 0) (sym q))
 
-    pub next_last : none ≡ next_list ds → Answers 0 (1, 0) out
+    pub next_last : None ≡ next_list ds → Answers 0 (1, 0) out
     next_last q =
-        accepted (0, 0) (next_entry ds out) (1, 0) out out (room none q ∙ ap (λ (b : Bool). cond b 10 0) (le-ltb (length out) 0 (omega arith)))
+        accepted (0, 0) (next_entry ds out) (1, 0) out out (room None q ∙ ap (λ (b : Bool). cond b 10 0) (le-ltb (length out) 0 (omega arith)))
         (ap next_counts q)
         (ap (λ (n : Option (List ℕ)). next_words n ++ drop (length (next_words n)) out) q)
 
-    module _ (es : List ℕ) (q : some es ≡ next_list ds) where
+    module _ (es : List ℕ) (q : Some es ≡ next_list ds) where
       equally_long : length es ≡ length ds
       equally_long = ((next_iff ds es).0 (sym q)).equally_long
 
       pub next_short : length out < length ds → Answers 10 (0, 0) out
       next_short a =
           refused (0, 0) (next_entry ds out) Refusal.ArrayTooShort out
-          (room (some es) q ∙ ap (λ (b : Bool). cond b 10 0) (lt-ltb (length out) (length es) (omega (arith, equally_long))))
+          (room (Some es) q ∙ ap (λ (b : Bool). cond b 10 0) (lt-ltb (length out) (length es) (omega (arith, equally_long))))
 
       pub next_done : length ds ≤ length out → (left : List ℕ) → left ≡ es ++ drop (length ds) out → Answers 0 (0, length ds) left
       next_done a left l =
           accepted (0, 0) (next_entry ds out) (0, length ds) out left
-          (room (some es) q ∙ ap (λ (b : Bool). cond b 10 0) (le-ltb (length out) (length es) (omega (arith, equally_long))))
+          (room (Some es) q ∙ ap (λ (b : Bool). cond b 10 0) (le-ltb (length out) (length es) (omega (arith, equally_long))))
           (ap (λ (n : ℕ). (0, n)) (sym equally_long) ∙ ap next_counts q)
           (l ∙ ap (λ (n : ℕ). es ++ drop n out) (sym equally_long) ∙ ap (λ (n : Option (List ℕ)). next_words n ++ drop (length (next_words n)) out) q)
 
 -- ---- what an accepted call tells of the next list
 
 module _ (ds out : List ℕ) where
-  pub told_last : told (0, 0) (next_entry ds out) ≡ (0, (1, 0)) → next_list ds ≡ none
+  pub told_last : told (0, 0) (next_entry ds out) ≡ (0, (1, 0)) → next_list ds ≡ None
   told_last t = go (next_list ds) (told_accepted (0, 0) (next_entry ds out) (1, 0) t).1
     where
-      go : (next : Option (List ℕ)) → next_counts next ≡ (1, 0) → next ≡ none
-      go none e = refl
-      go (some es) e = absurd (let z : ⊥ = omega (arith, ap (λ (w : ℕ × ℕ). w.0) e) in z)
+      go : (next : Option (List ℕ)) → next_counts next ≡ (1, 0) → next ≡ None
+      go None e = refl
+      go (Some es) e = absurd (let z : ⊥ = omega (arith, ap (λ (w : ℕ × ℕ). w.0) e) in z)
 
   pub told_next : (es : List ℕ) → told (0, 0) (next_entry ds out) ≡ (0, (0, length es)) → take (length es) (after (next_entry ds out) out) ≡ es
-      → next_list ds ≡ some es
+      → next_list ds ≡ Some es
   told_next es t l =
       let p = told_accepted (0, 0) (next_entry ds out) (0, length es) t in
       go (next_list ds) p.1 (ap (take (length es)) (left_accepted (0, 0) (next_entry ds out) out p.0) ∙ l)
     where
       go : (next : Option (List ℕ)) → next_counts next ≡ (0, length es) → take (length es) (next_words next ++ drop (length (next_words next)) out) ≡ es
-          → next ≡ some es
-      go none e q = absurd (let z : ⊥ = omega (arith, ap (λ (w : ℕ × ℕ). w.0) e) in z)
-      go (some fs) e q = ap some (sym (take_at fs (drop (length fs) out) (length es) (ap (λ (w : ℕ × ℕ). w.1) e)) ∙ q)
+          → next ≡ Some es
+      go None e q = absurd (let z : ⊥ = omega (arith, ap (λ (w : ℕ × ℕ). w.0) e) in z)
+      go (Some fs) e q = ap Some (sym (take_at fs (drop (length fs) out) (length es) (ap (λ (w : ℕ × ℕ). w.1) e)) ∙ q)

@@ -2,7 +2,7 @@
 use Rattle.std.specs.Prelude.{◌&&◌, ◌||◌, ◌∷◌, ◌++◌, ◌+◌, ◌-◌, ◌*◌}
 use Rattle.lists.specs.Prelude.{Bool, cond, not, List, [], map, flatten, ℕ, zero, suc, eqb, leb, ltb, ℤ, length, drop}
 use Rattle.lists.specs.Prelude.{begins}
-use Rattle.lists.specs.Prelude.{replicate, Option, none, some}
+use Rattle.lists.specs.Prelude.{replicate, Option, None, Some}
 use Rattle.gaps.specs.Gaps.{holds_gap}
 use Rattle.cartesian.specs.Cartesian.{distances}
 use Rattle.realization.specs.Realization.{realizable}
@@ -68,13 +68,13 @@ list_entry make ds out = record { conditions = list_conditions ds (length out); 
 
 -- what is counted of a next list: 1 where there is none, and its words
 abbrev pub next_counts : Option (List ℕ) → ℕ × ℕ
-next_counts none = (1, 0)
-next_counts (some es) = (0, length es)
+next_counts None = (1, 0)
+next_counts (Some es) = (0, length es)
 
 -- what is written: nothing where there is none, so that no array is too short for it
 abbrev pub next_words : Option (List ℕ) → List ℕ
-next_words none = []
-next_words (some es) = es
+next_words None = []
+next_words (Some es) = es
 
 -- the next list of the catalogue. Document 02, 2.1
 abbrev pub next_entry : List ℕ → List ℕ → Entry (ℕ × ℕ) ℕ

@@ -1,33 +1,39 @@
 -- EQUAL PATTERNS: the set of the ranks whose pattern equals that of rank r grows rank by rank, ends
 -- with the patterns of one length, and is the same set for each of its members.
 use Rattle.std.specs.Prelude.{◌≡◌, ◌⊎◌, ◌&&◌, ◌||◌, ◌∷◌, ◌+◌, ◌≤◌, ◌<◌}
-use Rattle.lists.proofs.Prelude.{◌∙◌, ap, sym, refl, subst, inl, inr, Bool, true, false, cond, not, List, ℕ, T, eqb}
+use Rattle.lists.proofs.Prelude.{◌∙◌, ap, sym, refl, subst, inl, inr, Bool, true, false, cond, List, ℕ, T, eqb}
 use Rattle.lists.proofs.Prelude.{leb}
-use Rattle.lists.proofs.Prelude.{ltb, length, get_or, set, drop, get_or-set_same, get_or-set_other, ext_get_or, dec_lt, arith, eq-eqb, ne_eqb, le-leb}
+use Rattle.lists.proofs.Prelude.{ltb, length, get_or, set, get_or-set_same, get_or-set_other, dec_lt, arith, eq-eqb, ne_eqb, le-leb}
 use Rattle.lists.proofs.Prelude.{lt-leb, lt-ltb}
 use Rattle.lists.proofs.Prelude.{le-ltb, same}
-use Rattle.lists.proofs.Tests.{and-true, and-false, true-T, clash}
+use Rattle.lists.proofs.Tests.{and-false, clash, test_ext, T-true}
 use Rattle.lists.proofs.Same.{same-true, same-false, true-same}
 use Rattle.bit_sets.specs.BitSets.{bit_at, bits}
 use Rattle.bit_sets.proofs.Digits.{bit_at_none}
-use Rattle.bit_sets.proofs.Laws.{lowest_out}
+use Rattle.bit_sets.proofs.Laws.{mem-bits}
+use Rattle.lists.proofs.Members.{any-mem, mem-any}
+use Rattle.lists.proofs.Prelude.{any, [], length-set, eqb→eq}
 use Rattle.pattern_set.specs.PatternSet.{PatternSet, good_set}
 use Rattle.filter_plan.specs.Plan.{hit_order}
 use Rattle.filter_plan.proofs.HitOrder.{Sooner, hit_order-Sooner, length-hit_order}
-use Rattle.filter_tables.specs.Tables.{ranked}
+use lib.Pointwise.{pointwise}
+use Rattle.lists.proofs.Prelude.{ap₂}
+use Rattle.filter_tables.specs.Tables.{ranked, Ranks}
 use Rattle.filter_checks.specs.Equal.{EqualTo, EqualRanks, EqualFrom}
 
--- ---- two lists
+-- ---- the patterns of two ranks
 
--- the first n distances agree
-abbrev pub AgreeBelow : List ℕ → List ℕ → ℕ → Type 0
-AgreeBelow xs ys n = (i : ℕ) → i < n → get_or xs i 0 ≡ get_or ys i 0
+-- a slice that is the pattern of a rank
+pub ranked_slice : (ps view : PatternSet) (numbers : List ℕ) (r n : ℕ) (xs : List ℕ) → view ≡ ps → Ranks ps numbers → r < length ps
+    → n ≡ get_or numbers r 0 → xs ≡ get_or view n [] → xs ≡ ranked ps r
+ranked_slice ps view numbers r n xs v f h e q = q ∙ ap₂ (λ (p : PatternSet) (m : ℕ). get_or p m []) v (e ∙ f r h)
 
-pub agree_same : (xs ys : List ℕ) (n : ℕ) → length ys ≡ length xs → length xs ≤ n → AgreeBelow xs ys n → true ≡ same xs ys
-agree_same xs ys n e h f = sym (same-true xs ys (ext_get_or 0 xs ys (sym e) (λ i k. f i (omega arith))))
-
-pub differ_same : (xs ys : List ℕ) (i : ℕ) → (get_or xs i 0 ≡ get_or ys i 0 → ⊥) → false ≡ same xs ys
-differ_same xs ys i d = sym (same-false xs ys (λ e. d (ap (λ (l : List ℕ). get_or l i 0) e)))
+pub pointwise_same : (xs ys : List ℕ) → pointwise eqb xs ys ≡ same xs ys
+unfolding same
+pointwise_same [] [] = refl
+pointwise_same [] (y ∷ ys) = refl
+pointwise_same (x ∷ xs) [] = refl
+pointwise_same (x ∷ xs) (y ∷ ys) = ap (λ (b : Bool). eqb x y && b) (pointwise_same xs ys)
 
 -- ---- the ranks from r on
 
@@ -116,40 +122,42 @@ module _ (ps : PatternSet) (r : ℕ) where
 
 -- ---- a value stored at the members of a set
 
--- what the table has when the value is still to be stored at the members in rest
-abbrev pub Stored : List ℕ → List ℕ → ℕ → ℕ → ℕ → Type 0
-Stored before table members value rest = (s : ℕ) → s < 64 → get_or table s 0 ≡ cond (bit_at members s && not (bit_at rest s)) value (get_or before s 0)
+-- the table with the value stored at each of these places
+abbrev pub stored : {A : Type 0} → List A → List ℕ → A → List A
+stored table [] value = table
+stored table (s ∷ ss) value = stored (set table s value) ss value
 
-pub Stored-start : (before : List ℕ) (members value : ℕ) → Stored before before members value members
-Stored-start before members value s h = go (bit_at members s)
+get_or-stored : {A : Type 0} (ss : List ℕ) (table : List A) (value : A) (s : ℕ) (d : A) → s < length table
+    → get_or (stored table ss value) s d ≡ cond (any (eqb s) ss) value (get_or table s d)
+unfolding any
+get_or-stored [] table value s d h = refl
+get_or-stored {A} (r ∷ ss) table value s d h = get_or-stored ss (set table r value) value s d (rw length-set h) ∙ go (any (eqb s) ss) (dec_lt s r) (dec_lt r s)
   where
-    go : (b : Bool) → get_or before s 0 ≡ cond (b && not b) value (get_or before s 0)
-    go true = refl
-    go false = refl
+    other : (b : Bool) → (s ≡ r → ⊥) → cond b value (get_or (set table r value) s d) ≡ cond (eqb s r || b) value (get_or table s d)
+    other b n = rw (ne_eqb s r n, get_or-set_other table r s value d n) refl
 
-pub Stored-more : (before table : List ℕ) (members value rest rest' r : ℕ) → length table ≡ 64 → r < 64 → bits rest ≡ r ∷ drop 1 (bits rest)
-    → bits rest' ≡ drop 1 (bits rest) → T (bit_at members r) → Stored before table members value rest
-    → Stored before (set table r value) members value rest'
-Stored-more before table members value rest rest' r l k e f t st s h =
-    go (dec_lt s r) (dec_lt r s)
-    ∙ ap (λ (b : Bool). cond (bit_at members s && not b) value (get_or before s 0)) (sym (lowest_out rest rest' r s e f h))
-  where
-    other : (s ≡ r → ⊥) → get_or (set table r value) s 0 ≡ cond (bit_at members s && not (not (eqb s r) && bit_at rest s)) value (get_or before s 0)
-    other d = rw (ne_eqb s r d) (get_or-set_other table r s value 0 d ∙ st s h)
+    here : (b : Bool) → s ≡ r → cond b value (get_or (set table r value) s d) ≡ cond (eqb s r || b) value (get_or table s d)
+    here true e = rw (eq-eqb s r e) refl
+    here false e = rw (eq-eqb s r e, e) (get_or-set_same table r value d (omega arith))
 
-    go : Dec (s < r) → Dec (r < s) → get_or (set table r value) s 0 ≡ cond (bit_at members s && not (not (eqb s r) && bit_at rest s)) value (get_or before s 0)
-    go (yes a) d = other (λ q. let z : ⊥ = omega arith in z)
-    go (no a) (yes b) = other (λ q. let z : ⊥ = omega arith in z)
-    go (no a) (no b) =
-        let q : s ≡ r = omega arith in
-        rw (q, eq-eqb r r refl, true-T (bit_at members r) t) (get_or-set_same table r value 0 (omega arith))
+    go : (b : Bool) → Dec (s < r) → Dec (r < s) → cond b value (get_or (set table r value) s d) ≡ cond (eqb s r || b) value (get_or table s d)
+    go b (yes l) m = other b (λ e. let z : ⊥ = omega arith in z)
+    go b (no l) (yes m) = other b (λ e. let z : ⊥ = omega arith in z)
+    go b (no l) (no m) = here b (omega arith)
 
-pub Stored-end : (before table : List ℕ) (members value rest : ℕ) → rest ≡ 0 → Stored before table members value rest
-    → (s : ℕ) → s < 64 → get_or table s 0 ≡ cond (bit_at members s) value (get_or before s 0)
-Stored-end before table members value rest e st s h =
-    st s h
-    ∙ ap (λ (b : Bool). cond (bit_at members s && not b) value (get_or before s 0)) (ap (λ (m : ℕ). bit_at m s) e ∙ bit_at_none s)
-    ∙ ap (λ (b : Bool). cond b value (get_or before s 0)) (and-true (bit_at members s))
+member_bit : (m s : ℕ) → s < 64 → any (eqb s) (bits m) ≡ bit_at m s
+member_bit m s h =
+    test_ext (any (eqb s) (bits m)) (bit_at m s)
+    (λ t. let a = any-mem (eqb s) (bits m) t in rw (eqb→eq s a.0 a.2) ((mem-bits m a.0).0 a.1).1)
+    (λ t. mem-any (eqb s) (bits m) s ((mem-bits m s).1 (h, t)) (T-true (eqb s s) (eq-eqb s s refl)))
+
+pub stored_at : {A : Type 0} (old table : List A) (members : ℕ) (rest : List ℕ) (value : A) → length old ≡ 64 → rest ≡ []
+    → stored table rest value ≡ stored old (bits members) value
+    → (s : ℕ) → s < 64 → (d : A) → get_or table s d ≡ cond (bit_at members s) value (get_or old s d)
+stored_at {A} old table members rest value l e q s h d =
+    let done : table ≡ stored old (bits members) value = ap (λ (ss : List ℕ). stored table ss value) (sym e) ∙ q in
+    ap (λ (t : List A). get_or t s d) done ∙ get_or-stored (bits members) old value s d (omega arith)
+    ∙ ap (λ (b : Bool). cond b value (get_or old s d)) (member_bit members s h)
 
 -- ---- the table
 
@@ -162,9 +170,6 @@ FilledAt ps r table s =
 
 abbrev pub FilledBelow : PatternSet → ℕ → List ℕ → Type 0
 FilledBelow ps r table = (s : ℕ) → s < length ps → FilledAt ps r table s
-
-pub filled_none : (ps : PatternSet) (table : List ℕ) → length ps ≤ 64 → ((r : ℕ) → r < 64 → get_or table r 0 ≡ 0) → FilledBelow ps 0 table
-filled_none ps table l f s h = inr (f s (omega arith), λ t k. absurd (let z : ⊥ = omega arith in z))
 
 -- equal patterns have one set
 equal_move : (ps : PatternSet) (r s set : ℕ) → ranked ps r ≡ ranked ps s → EqualTo ps r set → EqualTo ps s set

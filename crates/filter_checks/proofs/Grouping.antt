@@ -1,8 +1,8 @@
 -- EQUAL PATTERNS SIDE BY SIDE: numbers written behind others leave these as they are, and a set of
 -- ranks that has with each rank all that equal it shares none with the set of another rank.
-use Rattle.std.specs.Prelude.{◌≡◌, ◌⊎◌, ◌&&◌, ◌||◌, ◌∷◌, ◌++◌, ◌+◌, ◌*◌, ◌/◌, ◌%◌, ◌≤◌, ◌<◌}
+use Rattle.std.specs.Prelude.{◌≡◌, ◌⊎◌, ◌&&◌, ◌||◌, ◌++◌, ◌+◌, ◌*◌, ◌/◌, ◌%◌, ◌≤◌, ◌<◌}
 use Rattle.lists.proofs.Prelude.{◌∙◌, ap, sym, refl, subst, inl, inr, Bool, true, false, cond, List, append_assoc, map}
-use Rattle.lists.proofs.Prelude.{ℕ, zero, suc, T, ltb, length, get_or, take, drop, set, length-map}
+use Rattle.lists.proofs.Prelude.{ℕ, zero, suc, T, ltb, length, get_or, take, drop, length-map}
 use Rattle.lists.proofs.Prelude.{length-take-le, take_at, drop_at, take-take, take-append-le, sets, sets-eq, length-sets, dec_lt, arith}
 use Rattle.lists.proofs.Prelude.{lt-ltb, same, select, tabulate, true≢false, ltb→lt, le_refl}
 use Rattle.lists.proofs.Tests.{T-true, true-T, clash, and_split, or_cases, or_left, or_right}
@@ -16,19 +16,6 @@ use Rattle.bit_sets.proofs.Digits.{bit_at_none}
 use Rattle.pattern_set.specs.PatternSet.{PatternSet}
 use Rattle.filter_tables.specs.Tables.{ranked}
 use Rattle.filter_checks.specs.Equal.{EqualRanks}
-use Rattle.filter_checks.specs.Groups.{Groups}
-
--- ---- the numbers of the members of a set
-
--- one number more, and those of the members that are left
-pub numbers_more : (f : ℕ → ℕ) (grouped : List ℕ) (to r rest rest' : ℕ) → bits rest ≡ r ∷ drop 1 (bits rest) → bits rest' ≡ drop 1 (bits rest)
-    → sets (set grouped to (f r)) (to + 1) (map f (bits rest')) ≡ sets grouped to (map f (bits rest))
-numbers_more f grouped to r rest rest' e h =
-    let s : to + 1 ≡ suc to = omega arith in
-    rw (s, h) (sym (ap (λ (l : List ℕ). sets grouped to (map f l)) e))
-
-pub numbers_end : (f : ℕ → ℕ) (grouped : List ℕ) (to rest : ℕ) → rest ≡ 0 → sets grouped to (map f (bits rest)) ≡ grouped
-numbers_end f grouped to rest e = ap (λ (m : ℕ). sets grouped to (map f (bits m))) e ∙ ap (λ (l : List ℕ). sets grouped to (map f l)) bits-zero
 
 -- ---- numbers written behind others
 
@@ -137,12 +124,6 @@ module _ (ps : PatternSet) (numbers equal : List ℕ) where
       go : (s : ℕ) → s < r + 1 → Dec (s < r) → T (bit_at seen s)
       go s h (yes l) = g.below s l
       go s h (no l) = let q : s ≡ r = omega arith in rw q (T-true (bit_at seen r) e)
-
-  pub grouped_all : (r seen at : ℕ) (grouped words : List ℕ) → length ps ≤ 64 → length ps ≤ r → Grouped ps numbers equal r seen at grouped words
-      → Groups (length ps) numbers equal grouped words
-  grouped_all r seen at grouped words few l g s h =
-      let p = g.there s (omega arith) (g.below s (omega arith)) in
-      (omega (arith, p.0, g.room.1), p.1)
 
   -- rank r was not: it and those that equal it get their group
   module _ (few : length ps ≤ 64) (table : EqualRanks ps equal) (r seen at : ℕ) (grouped words : List ℕ) (lt : r < length ps)

@@ -2,9 +2,10 @@
 -- all global parents, since the comparisons that are left out hold of it.
 use Rattle.std.specs.Prelude.{◌≡◌, ◌+◌, ◌-◌, ◌*◌, ◌/◌, ◌%◌, ◌≤◌, ◌<◌}
 use Rattle.lists.proofs.Prelude.{sym, refl, subst, Bool, true, false, List, Memᴰ, ℕ, suc, ℤ}
+use Rattle.lists.proofs.Prelude.{drop, drop-cons, drop_of_length-le, add-one}
 use Rattle.lists.proofs.Prelude.{T, length, get_or, dec_lt, arith, eq-eqb, ne_eqb, lt-ltb, le-ltb, last_of, tabulate, all, select}
 use Rattle.lists.proofs.Tests.{T-true, true-T, test_ext, and_split, and_join, clash}
-use Rattle.lists.proofs.Members.{all-get_or, all-mem, mem-all, mem-get_or, get_or-mem, mem-map, mem_below, all_below, below_all}
+use Rattle.lists.proofs.Members.{all-mem, mem-all, get_or-mem, mem-map, mem_below, all_below, below_all}
 use Rattle.lists.proofs.Select.{mem-select}
 use Rattle.lists.proofs.Tables.{get_or-tabulate}
 use Rattle.realization.specs.Realization.{realizable}
@@ -19,16 +20,18 @@ use Rattle.filter_checks.specs.Comparisons.{is_apart, is_asked, side_words, left
 
 -- ---- a list tested word by word
 
--- the first n words pass
-abbrev pub AllBelow : (ℕ → Bool) → List ℕ → ℕ → Type 0
-AllBelow test words n = (k : ℕ) → k < n → test (get_or words k 0) ≡ true
+pub one_passes : (test : ℕ → Bool) (words : List ℕ) (k : ℕ) → k < length words → test (get_or words k 0) ≡ true
+    → all test (drop k words) ≡ all test (drop (k + 1) words)
+unfolding all
+one_passes test words k h e = rw (drop-cons words k 0 h, add-one k, e) refl
 
-pub all_passed : (test : ℕ → Bool) (words : List ℕ) (n : ℕ) → length words ≤ n → AllBelow test words n → true ≡ all test words
-all_passed test words n h f =
-    sym (true-T _ (mem-all test words (λ a m. let p = mem-get_or words a 0 m in rw (← p.2) (T-true _ (f p.0 (omega (arith, p.1, h)))))))
+pub one_fails : (test : ℕ → Bool) (words : List ℕ) (k : ℕ) → k < length words → test (get_or words k 0) ≡ false → all test (drop k words) ≡ false
+unfolding all
+one_fails test words k h e = rw (drop-cons words k 0 h, e) refl
 
-pub one_failed : (test : ℕ → Bool) (words : List ℕ) (k : ℕ) → k < length words → test (get_or words k 0) ≡ false → false ≡ all test words
-one_failed test words k h e = test_ext false (all test words) (λ t. absurd t) (λ t. rw e at (all-get_or test words 0 k t h))
+pub none_left : (test : ℕ → Bool) (words : List ℕ) (k : ℕ) → length words ≤ k → all test (drop k words) ≡ true
+unfolding all
+none_left test words k h = rw (drop_of_length-le words {i = k} h) refl
 
 -- ---- the words of a side
 

@@ -5,7 +5,7 @@ use Rattle.lists.proofs.Prelude.{◌∙◌, ap, sym, refl, subst, ap₂, List, [
 use Rattle.lists.proofs.Prelude.{get_or}
 use Rattle.lists.proofs.Prelude.{take, drop, length-append, length-take, length-drop, length-take-le, drop_of_length-le, take_all, take_at, drop_at}
 use Rattle.lists.proofs.Prelude.{take-append-drop}
-use Rattle.lists.proofs.Prelude.{take-append-le, drop-append-le, take-take, get_or-take, get_or-drop, drop-drop, add-zero, add-one, dec_lt, arith}
+use Rattle.lists.proofs.Prelude.{take-append-le, drop-append-le, take-take, get_or-take, get_or-drop, drop-drop, add-zero, dec_lt, arith}
 use Rattle.lists.proofs.Parts.{drop_front}
 use Rattle.lists.proofs.Rows.{length-flatten-suc, length-flatten-take}
 use Rattle.lists.proofs.Tables.{get_or-tabulate}
@@ -15,7 +15,9 @@ use Rattle.global_parents.specs.GlobalParents.{global_parent, global_parents}
 use Rattle.global_parents.proofs.Parents.{length-global_parents}
 use Rattle.global_parents.proofs.Passes.{root_parent}
 use Rattle.pattern_set.specs.PatternSet.{PatternSet, good_set, patterns_of, IsSet}
-use Rattle.set_access.proofs.Laws.{count_le, total_le, set_fits, offset_le, offset_next}
+use Rattle.set_access.proofs.Laws.{pattern_ge, pattern_le, pattern_realizable}
+use Rattle.lists.proofs.Tests.{true-T}
+use Rattle.lists.proofs.Prelude.{true}
 use Rattle.filter_plan.proofs.HitOrder.{good_number}
 use Rattle.filter_checks.specs.Comparisons.{left_words, right_words, comparison_words, with_comparisons, Comparisons}
 use Rattle.filter_checks.proofs.Words.{words_most}
@@ -37,20 +39,21 @@ pattern_words_lem p r h =
     let most = words_most (global_parents p) i.0 (omega (arith, k, l)) (get_or-tabulate (length p) (global_parent p) 0 i.0 k ∙ root) in
     omega (arith, most, l)
 
--- the words of pattern j lie in the set array, from a to e, and where all distances have room its
--- words have
-pub part_bounds : (ws : List ℕ) (good : IsSet ws) (j k a e room : ℕ) → j < length (patterns_of ws) → k ≡ length (patterns_of ws)
-    → a ≡ 3 + length (patterns_of ws) + length (flatten (take j (patterns_of ws)))
-    → e ≡ 3 + length (patterns_of ws) + length (flatten (take (j + 1) (patterns_of ws)))
-    → length (flatten (patterns_of ws)) ≤ room
-    → (e ≡ a + length (get_or (patterns_of ws) j [])) × (e ≤ length ws) × (a ≤ 4163) × (a - 3 - k + length (get_or (patterns_of ws) j []) ≤ room)
-part_bounds ws good j k a e room h k≡ a≡ e≡ l =
-    let q : e ≡ a + length (get_or (patterns_of ws) j []) = omega (arith, offset_next ws good j h, rw add-one at e≡) in
-    let f = set_fits ws good in
-    let t = total_le ws good in
-    let n = count_le ws good in
-    let o = offset_le ws good (j + 1) in
-    (q, omega arith, omega arith, omega arith)
+-- what is known of a slice that is pattern j
+pub known : (ws : List ℕ) (good : IsSet ws) (j : ℕ) (xs : List ℕ) → xs ≡ get_or (patterns_of ws) j [] → j < length (patterns_of ws)
+    → (realizable xs ≡ true) × (1 ≤ length xs) × (length xs ≤ 256) × (length (comparison_words (global_parents xs)) ≤ length xs)
+known ws good j xs e h =
+    let p = get_or (patterns_of ws) j [] in
+    let r = pattern_realizable ws good j h in
+    rw e (true-T (realizable p) r, pattern_ge ws good j h, pattern_le ws good j h, pattern_words_lem p r (pattern_ge ws good j h))
+
+-- the words of a side are fewer than 256
+pub left_few : (ws : List ℕ) (good : IsSet ws) (j : ℕ) → j < length (patterns_of ws)
+    → length (left_words (global_parents (get_or (patterns_of ws) j []))) < 256
+left_few ws good j h =
+    let gs = global_parents (get_or (patterns_of ws) j []) in
+    let k = known ws good j _ refl h in
+    omega (arith, k.2, k.3, length-append (left_words gs) (right_words gs))
 
 -- the front of the array in which the parents of d are
 pub parents_front : (p d y old : List ℕ) (n : ℕ) → d ≡ p → n ≡ length p → y ≡ global_parents d ++ drop (length d) old → take n y ≡ global_parents p
@@ -138,16 +141,6 @@ module _ (ps : PatternSet) (good : T (good_set ps)) where
         sums a b c h = omega arith
 
 -- ---- the words of one pattern, read
-
--- they begin as far behind those of pattern 0 as the pattern itself
-pub words_start : (ps : PatternSet) (j a s : ℕ) → s ≡ 3 + length ps + length (flatten (take 0 ps))
-    → a ≡ 3 + length ps + length (flatten (take j ps)) → a - s ≡ length (flatten (take j ps))
-unfolding flatten
-words_start ps j a s e f = omega (arith, e, f)
-
-pub first_start_le : (ps : PatternSet) (j a s : ℕ) → s ≡ 3 + length ps + length (flatten (take 0 ps)) → a ≡ 3 + length ps + length (flatten (take j ps)) → s ≤ a
-unfolding flatten
-first_start_le ps j a s e f = omega (arith, e, f)
 
 module _ (ps : PatternSet) (out : List ℕ) (holds : Comparisons ps out) (j : ℕ) (h : j < length ps) where
   abbrev L : List ℕ

@@ -2,9 +2,10 @@
 -- no more than the pattern's distances, since the root has none; so each pattern's words stay where
 -- its own distances lie.
 use Rattle.std.specs.Prelude.{◌≡◌, ◌∷◌, ◌++◌, ◌+◌, ◌-◌, ◌*◌, ◌≤◌, ◌<◌}
-use Rattle.lists.proofs.Prelude.{◌∙◌, ap, sym, refl, subst, ap₂, Bool, true, false, cond, List, [], map, append-nil, append_assoc}
-use Rattle.lists.proofs.Prelude.{ℕ, zero, suc, length, get_or, take, drop, set, length-append, length-take-le}
-use Rattle.lists.proofs.Prelude.{take_at, drop_at, drop-drop, add-one, add-zero, le_refl, take-append-drop, dec_lt, arith, ne_eqb, le-ltb, tabulate, select}
+use Rattle.lists.proofs.Prelude.{◌∙◌, ap, sym, refl, subst, Bool, true, false, cond, List, [], map, append-nil, append_assoc}
+use Rattle.lists.proofs.Prelude.{ℕ, zero, suc, length, get_or, take, drop, set, length-append}
+use Rattle.lists.proofs.Prelude.{take_at, drop_at, drop-drop, drop_of_length-le, length-drop, take_all, add-one, add-zero, le_refl, dec_lt, arith, ne_eqb}
+use Rattle.lists.proofs.Prelude.{le-ltb, tabulate, select}
 use Rattle.lists.proofs.Tests.{clash}
 use Rattle.lists.proofs.Select.{select_snoc, select_snoc_not}
 use Rattle.lists.proofs.Parts.{map-append, put_behind}
@@ -62,57 +63,42 @@ module _ (right : Bool) (from : ℕ) (parents : List ℕ) where
       let grown = subst (λ (n : ℕ). length (side_below right from parents (suc i)) ≤ length (side_below right from parents n)) n (side_grows (suc i) d) in
       omega (arith, more, grown)
 
-  -- what is written when the first i places are done, from the word at on
-  abbrev pub Written : List ℕ → ℕ → ℕ → List ℕ → Type 0
-  Written out at i new =
-      new ≡ (take at out ++ side_below right from parents i) ++ drop (length (take at out ++ side_below right from parents i)) out
+  -- the words of the first i places stand in front of what was there
+  pub record SideWritten (old : List ℕ) (i to : ℕ) (out : List ℕ) : Type 0 where
+    pub count : to ≡ length (side_below right from parents i)
+    pub words : out ≡ side_below right from parents i ++ drop (length (side_below right from parents i)) old
 
-  pub Written-none : (out : List ℕ) (at : ℕ) → at ≤ length out → Written out at 0 out
-  Written-none out at h =
-      let f : take at out ++ side_below right from parents 0 ≡ take at out = ap (λ (l : List ℕ). take at out ++ l) side_none ∙ append-nil (take at out) in
-      let n : length (take at out) ≡ at = length-take-le at out h in
-      sym (ap (λ (l : List ℕ). l ++ drop (length l) out) f ∙ ap (λ (m : ℕ). take at out ++ drop m out) n ∙ take-append-drop at out)
+  pub side_start : (old : List ℕ) → SideWritten old 0 0 old
+  side_start old = record { count = ap length (sym side_none); words = rw side_none refl }
 
-  module _ (out new : List ℕ) (at i : ℕ) (room : at ≤ length out) (before : Written out at i new) where
-    front : length (take at out ++ side_below right from parents i) ≡ at + length (side_below right from parents i)
-    front =
-        length-append (take at out) (side_below right from parents i)
-        ∙ ap (λ (n : ℕ). n + length (side_below right from parents i)) (length-take-le at out room)
+  module _ (old out : List ℕ) (i to : ℕ) (before : SideWritten old i to out) where
+    -- there is room for a word more
+    pub side_fits : i < length parents → length (side_words right from parents) ≤ length old → asked i ≡ true → to < length old
+    side_fits h room e = omega (arith, before.count, side_room i h e)
 
-    pub Written-yes : (to x : ℕ) → asked i ≡ true → to ≡ at + length (side_below right from parents i) → to < length out → x ≡ word i
-        → Written out at (i + 1) (set new to x) × (to + 1 ≡ at + length (side_below right from parents (i + 1)))
-    Written-yes to x e t l v =
-        let f = take at out ++ side_below right from parents i in
-        let more : f ++ (x ∷ []) ≡ take at out ++ side_below right from parents (i + 1) =
-        append_assoc (take at out) (side_below right from parents i) (x ∷ [])
-        ∙ ap (λ (l : List ℕ). take at out ++ l)
-        (ap (λ (y : ℕ). side_below right from parents i ++ (y ∷ [])) v ∙ sym (side_yes i e) ∙ ap (side_below right from parents) (sym (add-one i))) in (
-          ap (λ (l : List ℕ). set l to x) before
-              ∙ put_behind f out to x (t ∙ sym front) l
-              ∙ ap (λ (l : List ℕ). l ++ drop (length l) out) more,
-          let n : length (side_below right from parents (i + 1)) ≡ length (side_below right from parents i) + 1 =
-              ap (λ (k : ℕ). length (side_below right from parents k)) (add-one i) ∙ ap length (side_yes i e)
-              ∙ length-append (side_below right from parents i) (word i ∷ []) in
-              omega (arith, n, t),
-        )
+    pub side_put : i < length parents → length (side_words right from parents) ≤ length old → asked i ≡ true
+        → SideWritten old (i + 1) (to + 1) (set out to (word i))
+    side_put h room e =
+        let more : side_below right from parents i ++ (word i ∷ []) ≡ side_below right from parents (i + 1) =
+        sym (ap (side_below right from parents) (add-one i) ∙ side_yes i e) in record {
+          count = omega (arith, before.count, ap length more, length-append (side_below right from parents i) (word i ∷ []));
+          words = ap (λ (l : List ℕ). set l to (word i)) before.words
+              ∙ put_behind (side_below right from parents i) old to (word i) before.count (side_fits h room e)
+              ∙ ap (λ (l : List ℕ). l ++ drop (length l) old) more;
+        }
 
-    pub Written-no : (to : ℕ) → asked i ≡ false → to ≡ at + length (side_below right from parents i)
-        → Written out at (i + 1) new × (to ≡ at + length (side_below right from parents (i + 1)))
-    Written-no to e t =
+    pub side_pass : asked i ≡ false → SideWritten old (i + 1) to out
+    side_pass e =
         let same : side_below right from parents (i + 1) ≡ side_below right from parents i = ap (side_below right from parents) (add-one i) ∙ side_no i e in
-        rw same (before, t)
+        record { count = rw same before.count; words = rw same before.words }
 
-    pub written_all : i ≡ length parents
-        → new ≡ (take at out ++ side_words right from parents) ++ drop (at + length (side_words right from parents)) out
+    pub side_counted : i ≡ length parents → to ≡ length (side_words right from parents)
     unfolding side_words
-    written_all e =
-        before
-        ∙ ap (λ (n : ℕ). (take at out ++ side_below right from parents i) ++ drop n out) front
-        ∙ ap (λ (n : ℕ). (take at out ++ side_below right from parents n) ++ drop (at + length (side_below right from parents n)) out) e
+    side_counted e = rw (← e) before.count
 
-  pub side_all : (i : ℕ) → i ≡ length parents → length (side_below right from parents i) ≡ length (side_words right from parents)
-  unfolding side_words
-  side_all i e = ap (λ (n : ℕ). length (side_below right from parents n)) e
+    pub side_written : i ≡ length parents → out ≡ side_words right from parents ++ drop (length (side_words right from parents)) old
+    unfolding side_words
+    side_written e = rw (← e) before.words
 
 -- ---- both sides
 
@@ -181,23 +167,20 @@ words_most parents i h e =
 
 -- ---- the words of a pattern, written to the front
 
-pub words_put : (a : List ℕ) (L R : List ℕ) (b c d : List ℕ) (x : ℕ) → 1 ≤ length a
-    → b ≡ (take 1 a ++ L) ++ drop (1 + length L) a
-    → c ≡ (take (1 + length L) b ++ R) ++ drop (1 + length L + length R) b
-    → d ≡ set c 0 x
-    → d ≡ (x ∷ (L ++ R)) ++ drop (length (x ∷ (L ++ R))) a
-words_put [] L R b c d x h e f g = absurd (let z : ⊥ = omega arith in z)
-words_put (y ∷ a) L R b c d x h e f g =
-    let l : 1 + length L ≡ suc (length L) = omega arith in
-    let m : 1 + length L + length R ≡ suc (length L) + length R = omega arith in
-    let b' : b ≡ y ∷ (L ++ drop (length L) a) = e ∙ ap (λ (n : ℕ). (y ∷ L) ++ drop n (y ∷ a)) l in
-    let h_t : take (suc (length L)) b ≡ y ∷ L = ap (take (suc (length L))) b' ∙ ap (λ (v : List ℕ). y ∷ v) (take_at L (drop (length L) a) (length L) refl) in
-    let h_d : drop (suc (length L) + length R) b ≡ drop (length L + length R) a =
-    ap (drop (suc (length L) + length R)) b'
-    ∙ ap (λ (n : ℕ). drop n (y ∷ (L ++ drop (length L) a))) (let q : suc (length L) + length R ≡ suc (length L + length R) = omega arith in q)
-    ∙ sym (drop-drop (length R) (length L) (L ++ drop (length L) a))
-    ∙ ap (drop (length R)) (drop_at L (drop (length L) a) (length L) refl)
-    ∙ drop-drop (length R) (length L) a in
-    let c' : c ≡ (y ∷ (L ++ R)) ++ drop (length L + length R) a =
-    f ∙ ap₂ (λ (n k : ℕ). (take n b ++ R) ++ drop k b) l m ∙ ap₂ (λ (v w : List ℕ). (v ++ R) ++ w) h_t h_d in
-    g ∙ ap (λ (v : List ℕ). set v 0 x) c' ∙ ap (λ (n : ℕ). x ∷ ((L ++ R) ++ drop n a)) (sym (length-append L R))
+-- words written behind others, to the part from there on
+pub behind_front : (front words array out part : List ℕ) (at k : ℕ) → out ≡ front ++ drop (length front) array → at ≡ length front → k ≡ length out - at
+    → part ≡ words ++ drop (length words) (take k (drop at out))
+    → take at out ++ (part ++ drop k (drop at out)) ≡ (front ++ words) ++ drop (length (front ++ words)) array
+behind_front front words array out part at k e a h p =
+    let f : take at out ≡ front = ap (take at) e ∙ take_at front _ at (sym a) in
+    let d : drop at out ≡ drop (length front) array = ap (drop at) e ∙ drop_at front _ at (sym a) in
+    let len : length (drop at out) ≤ k = simp length-drop (omega arith) in
+    rw (drop_of_length-le (drop at out) {i = k} len, append-nil part, p, take_all k (drop at out) len, f, d)
+    (ap (λ (l : List ℕ). front ++ (words ++ l)) (drop-drop (length words) (length front) array)
+    ∙ ap (λ (n : ℕ). front ++ (words ++ drop n array)) (sym (length-append front words))
+    ∙ sym (append_assoc front words _))
+
+pub words_put : (old L R out : List ℕ) (x : ℕ) → 1 ≤ length old → out ≡ ((take 1 old ++ L) ++ R) ++ drop (length ((take 1 old ++ L) ++ R)) old
+    → set out 0 x ≡ (x ∷ (L ++ R)) ++ drop (length (x ∷ (L ++ R))) old
+words_put [] L R out x h e = absurd (let z : ⊥ = omega arith in z)
+words_put (y ∷ old) L R out x h e = ap (λ (l : List ℕ). set l 0 x) e

@@ -2,3 +2,4 @@
 pub mod Equal
 pub mod Comparisons
 pub mod Groups
+pub mod Sides

@@ -5,6 +5,8 @@ ghost use Rattle.global_parents.specs.GlobalParents.{global_parents};
 ghost use Rattle.pattern_set.specs.PatternSet.{patterns_of, IsSet};
 ghost use Rattle.filter_checks.specs.Comparisons.{Comparisons, passes_left, passes_right, WordsArePlaces, passes_words};
 
+use set_access::Patterns;
+
 // Whether the value at place g is not above the one at place i.
 fn is_not_above(window: &[i32], g: usize, i: usize) -> bool
     requires { (g < length window.now) × (i < length window.now) }
@@ -23,36 +25,33 @@ fn is_below(window: &[i32], g: usize, i: usize) -> bool
 
 // Whether the window passes the comparisons with parents to the left; stops at the first that it
 // does not pass.
+#[tactic(auto, using(crate::proofs::Passing::one_passes, crate::proofs::Passing::one_fails, crate::proofs::Passing::none_left))]
 fn passes_left(words: &[u32], window: &[i32]) -> bool
     requires { WordsArePlaces words.now (length window.now) }
     ensures { result ≡ all (passes_left window.now) words.now }
 {
-    let n = words.len();
-    let mut k = 0;
-    while k < n {
-        let word = casts::wide(words[k]);
+    for word in words {
+        let word = *word as usize;
         if !is_not_above(window, word / 256, word % 256) {
             return false;
         }
-        k += 1;
     }
     true
 }
 
 // Whether the window passes the comparisons with parents to the right; stops at the first that it
 // does not pass.
+// Like passes_left but for its test; a test handed in as a closure leaves its call unproved.
+#[tactic(auto, using(crate::proofs::Passing::one_passes, crate::proofs::Passing::one_fails, crate::proofs::Passing::none_left))]
 fn passes_right(words: &[u32], window: &[i32]) -> bool
     requires { WordsArePlaces words.now (length window.now) }
     ensures { result ≡ all (passes_right window.now) words.now }
 {
-    let n = words.len();
-    let mut k = 0;
-    while k < n {
-        let word = casts::wide(words[k]);
+    for word in words {
+        let word = *word as usize;
         if !is_below(window, word / 256, word % 256) {
             return false;
         }
-        k += 1;
     }
     true
 }
@@ -64,15 +63,10 @@ pub fn passes(set: &[u32], j: usize, words: &[u32], window: &[i32]) -> bool
     requires window_len { length window.now ≡ length (get_or (patterns_of set.now) j []) }
     ensures { result ≡ passes_words (global_parents (get_or (patterns_of set.now) j [])) window.now }
 {
-    let first = set_access::pattern_start(set, 0);
-    let at = set_access::pattern_start(set, j) - first;
-    let counts = casts::wide(words[at]);
+    let at = Patterns::of(set).offset(j);
+    let counts = words[at] as usize;
     let left = at + 1;
     let right = left + counts % 256;
     let end = right + counts / 256;
-    if passes_left(&words[left..right], window) {
-        passes_right(&words[right..end], window)
-    } else {
-        false
-    }
+    passes_left(&words[left..right], window) && passes_right(&words[right..end], window)
 }

@@ -1,12 +1,13 @@
 -- THE PATTERNS OF A PLACE, BY RANK: the members of a set of ranks, in their order, are the patterns
 -- that pass its test in the order of the hits; so they are the place's hits, and as many as its
 -- candidates. A place without candidates has no hit, and a gap has no candidates.
-use Rattle.std.specs.Prelude.{◌≡◌, ◌&&◌, ◌∷◌, ◌+◌, ◌/◌, ◌≤◌, ◌<◌}
+use Rattle.std.specs.Prelude.{◌≡◌, ◌&&◌, ◌∷◌, ◌+◌, ◌-◌, ◌/◌, ◌%◌, ◌≤◌, ◌<◌}
 use Rattle.lists.proofs.Prelude.{◌∙◌, ap, sym, refl, subst, Bool, true, false, List, [], map, flatten, ℕ, suc, ℤ, pos, T}
-use Rattle.lists.proofs.Prelude.{ltb, length, get_or, take, drop, length-append, length-map, length-take-le, length-drop, dec_lt, arith, lt-leb, lt-ltb, le-ltb}
+use Rattle.lists.proofs.Prelude.{ltb, length, get_or, take, drop, length-append, length-map, dec_lt, arith, lt-leb, lt-ltb, le-ltb}
 use Rattle.lists.proofs.Prelude.{ltb-true, tabulate, select, drop-cons, drop_of_length-le, add-one}
 use Rattle.lists.proofs.Tests.{and-false, and_split, and_join, T-true, true-T}
 use Rattle.lists.proofs.Rows.{flatten-tabulate}
+use Rattle.lists.proofs.Tables.{length-tabulate}
 use Rattle.lists.proofs.Members.{get_or-mem, mem-get_or, map_ext, map-map}
 use Rattle.lists.proofs.Select.{select_empty}
 use Rattle.lists.proofs.Counting.{length-how_many, how_many-le, how_many_all}
@@ -23,6 +24,7 @@ use Rattle.filter_plan.proofs.Checks.{shortest_own, hit_candidate}
 use Rattle.filter_plan.proofs.Candidates.{candidates_order, last_hits_candidates}
 use Rattle.filter_tables.specs.Tables.{ranked, Ranks}
 use Rattle.filter_tables.proofs.Lookup.{bits_ranks, ranks_order}
+use Rattle.filter_checks.specs.Groups.{Groups}
 use Rattle.filter_windows.specs.Looks.{SetOf}
 use Rattle.filter_windows.proofs.Samples.{Since-gap, samples_fit}
 use Rattle.filter_passes.specs.Passes.{is_marked, HitsMarked, MarkedIf, NoneFrom, candidates_below, rank_hits, place_hits}
@@ -149,6 +151,14 @@ pub hits_at_size : (ps : PatternSet) (text : List ℤ) (p : ℕ) (numbers : List
     → SetOf ps (is_hit (take (suc p) text)) found → length (bits found) ≡ length (hits_at ps text p)
 hits_at_size ps text p numbers found g n s = sym (length-rank_hits numbers p (bits found)) ∙ ap length (hits_by_rank ps text p numbers found g n s)
 
+-- a set has at most 64 members
+pub bits_le : (m : ℕ) → length (bits m) ≤ 64
+unfolding bits
+bits_le m =
+    let below = tabulate 64 (λ i. i) in
+    rw (length-how_many (bit_at m) below)
+    (omega (arith, how_many-le (bit_at m) (λ x. true) below (λ a k u. tt), how_many_all below, length-tabulate 64 (λ i. i)))
+
 -- the hits of numbers: the first, and the others from i on
 pub length-place_hits : (p : ℕ) (numbers : List ℕ) → length (place_hits p numbers) ≡ length numbers
 unfolding place_hits
@@ -169,11 +179,17 @@ pub place_ranks : (p : ℕ) (numbers ranks : List ℕ) → place_hits p (map (λ
 unfolding place_hits rank_hits
 place_ranks p numbers ranks = map-map (λ s. get_or numbers s 0) (λ j. (p, j)) ranks
 
--- as many as there are ranks
-pub part_size : (grouped numbers ranks : List ℕ) (a n : ℕ) → a + n ≤ length grouped → take n (drop a grouped) ≡ map (λ s. get_or numbers s 0) ranks
-    → n ≡ length ranks
-part_size grouped numbers ranks a n h e =
-    sym (length-take-le n (drop a grouped) (omega (arith, length-drop a grouped))) ∙ ap length e ∙ length-map ranks (λ s. get_or numbers s 0)
+-- those of the ranks whose patterns equal that of rank r, from the table in which they lie side by
+-- side
+pub group_hits : (k : ℕ) (numbers equal grouped words : List ℕ) (p r : ℕ) → Groups k numbers equal grouped words → r < k →
+    let word = get_or words r 0 in
+    place_hits p (take (word % 64 + word / 64 - word % 64) (drop (word % 64) grouped)) ≡ rank_hits numbers p (bits (get_or equal r 0))
+group_hits k numbers equal grouped words p r g h =
+    let word = get_or words r 0 in
+    let e : word % 64 + word / 64 - word % 64 ≡ word / 64 = omega arith in
+    ap (λ (n : ℕ). place_hits p (take n (drop (word % 64) grouped))) e
+    ∙ ap (place_hits p) (g r h).1
+    ∙ place_ranks p numbers (bits (get_or equal r 0))
 
 -- the hit of the first rank, and those of the others
 pub rank_first : (numbers : List ℕ) (p r : ℕ) (ranks rest : List ℕ) → ranks ≡ r ∷ drop 1 ranks → rest ≡ drop 1 ranks

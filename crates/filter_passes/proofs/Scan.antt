@@ -5,15 +5,15 @@ use Rattle.std.specs.Prelude.{◌≡◌, ◌+◌, ◌-◌, ◌*◌, ◌^◌, ◌
 use Rattle.lists.proofs.Prelude.{◌∙◌, ap, sym, refl, subst, List, ℕ, suc, ℤ, T, length, take}
 use Rattle.lists.proofs.Prelude.{zero, zero-mod, add-one, dec_lt, arith}
 use Rattle.bit_sets.specs.BitSets.{bits}
-use Rattle.bit_sets.proofs.Laws.{bits-zero, size_le}
+use Rattle.bit_sets.proofs.Laws.{bits-zero}
 use Rattle.pattern_set.specs.PatternSet.{PatternSet, good_set}
 use Rattle.matching.specs.Matching.{shortest, is_candidate, candidates}
 use Rattle.filter_plan.specs.Plan.{text_fingerprint}
-use Rattle.filter_windows.specs.Looks.{Since, SetOf}
+use Rattle.filter_windows.specs.Looks.{SetOf}
 use Rattle.filter_windows.proofs.Rolling.{new_bit_first, fingerprint_none, fingerprint_rolled}
 use Rattle.filter_windows.proofs.Samples.{Since-start}
 use Rattle.filter_passes.specs.Passes.{candidates_below, rest_hits, Stands, NoneFrom}
-use Rattle.filter_passes.proofs.Places.{candidates_next, candidates_none, candidates_all, no_candidate_hit}
+use Rattle.filter_passes.proofs.Places.{candidates_next, candidates_none, candidates_all, bits_le, no_candidate_hit}
 use Rattle.filter_passes.proofs.Lists.{rest_none}
 
 -- ---- places without candidates
@@ -51,9 +51,8 @@ rest_skip ps text p q good h k none =
     skip ps text p q (λ (i : ℕ). rest_hits ps text p ≡ rest_hits ps text i) h none
     (λ i l s e. e ∙ rest_none ps text i (omega (arith, l, k)) (no_candidate_hit ps text i good s)) refl
 
--- where a pass stands that has p places behind it
-pub record Scan (ps : PatternSet) (text : List ℤ) (p own begin count : ℕ) : Type 0 where
-  pub stands : Stands text p own begin
+-- a pass that stands before place p has counted so many candidates
+pub record Scan (ps : PatternSet) (text : List ℤ) (p count : ℕ) : Type 0 where
   -- the candidates with a last place before p
   pub counted : count ≡ candidates_below ps text p
   -- each place has at most 64
@@ -64,25 +63,16 @@ first : (m : ℕ) (text : List ℤ) → 1 ≤ m → 0 < length text → 0 ≡ te
 first m text h l =
     fingerprint_rolled m text 0 0 0 0 h l (fingerprint_none m text) (new_bit_first text 0 refl) (sym (zero-mod (2 ^ (m - 1))))
 
-pub Scan-start : (ps : PatternSet) (text : List ℤ) → Scan ps text 0 0 0 0
-Scan-start ps text = record {
-  stands = (omega arith, (λ l. first 17 text (omega arith) l), Since-start text);
-  counted = candidates_none ps text;
-  bound = omega arith;
-}
+pub Stands-start : (text : List ℤ) → Stands text 0 0 0
+Stands-start text = (omega arith, (λ l. first 17 text (omega arith) l), Since-start text)
 
--- all candidates are counted
-pub Scan-end : (ps : PatternSet) (text : List ℤ) (p own begin count : ℕ) → Scan ps text p own begin count → length text ≤ p
-    → count ≡ candidates ps text
-Scan-end ps text p own begin count s h =
-    let e : p ≡ length text = let k = s.stands.0 in omega arith in
-    s.counted ∙ candidates_all ps text p e
+pub Scan-start : (ps : PatternSet) (text : List ℤ) → Scan ps text 0 0
+Scan-start ps text = record { counted = candidates_none ps text; bound = omega arith }
 
-module _ (ps : PatternSet) (text : List ℤ) (p own begin count : ℕ) (good : T (good_set ps)) (before : Scan ps text p own begin count) where
+module _ (ps : PatternSet) (text : List ℤ) (p count : ℕ) (good : T (good_set ps)) (before : Scan ps text p count) where
   -- past places without candidates
-  pub Scan-skip : (q own' begin' : ℕ) → Stands text q own' begin' → p ≤ q → NoneFrom ps text p q → Scan ps text q own' begin' count
-  Scan-skip q own' begin' stands h none = record {
-    stands = stands;
+  pub Scan-skip : (q : ℕ) → p ≤ q → NoneFrom ps text p q → Scan ps text q count
+  Scan-skip q h none = record {
     counted =
         skip ps text p q (λ (i : ℕ). count ≡ candidates_below ps text i) h none
         (λ i k s e. e ∙ same i s ∙ ap (candidates_below ps text) (sym (add-one i)))
@@ -93,17 +83,16 @@ module _ (ps : PatternSet) (text : List ℤ) (p own begin count : ℕ) (good : T
       same : (i : ℕ) → SetOf ps (is_candidate (shortest 17 ps) (take (suc i) text)) 0 → candidates_below ps text i ≡ candidates_below ps text (suc i)
       same i s = omega (arith, candidates_next ps text i 0 good s, ap length bits-zero)
 
-  -- past a place with candidates, behind which the samples begin where they did
-  pub Scan-next : (own' here count' : ℕ) → p < length text → (p + 1 < length text → own' ≡ text_fingerprint 17 (take (suc (p + 1)) text))
-      → Since text (suc p) begin → SetOf ps (is_candidate (shortest 17 ps) (take (suc p) text)) here → here < 2 ^ 64 → count' ≡ count + length (bits here)
-      → Scan ps text (p + 1) own' begin count'
-  Scan-next own' here count' lt own_next since found h e =
-      let one = sym (add-one p) in record {
-        stands = (omega (arith, lt), own_next, subst (λ (n : ℕ). Since text n begin) one since);
-        counted =
-            e
-            ∙ ap (λ (n : ℕ). n + length (bits here)) before.counted
-            ∙ sym (candidates_next ps text p here good found)
-            ∙ ap (candidates_below ps text) one;
-        bound = omega (arith, e, before.bound, size_le here h);
-      }
+  -- past a place with candidates
+  pub Scan-next : (here : ℕ) → SetOf ps (is_candidate (shortest 17 ps) (take (suc p) text)) here → Scan ps text (p + 1) (count + length (bits here))
+  Scan-next here found = record {
+    counted =
+        ap (λ (n : ℕ). n + length (bits here)) before.counted
+        ∙ sym (candidates_next ps text p here good found)
+        ∙ ap (candidates_below ps text) (sym (add-one p));
+    bound = omega (arith, before.bound, bits_le here);
+  }
+
+  -- past the last place all are counted
+  pub scan_end : p ≤ length text → NoneFrom ps text p (length text) → count ≡ candidates ps text
+  scan_end h none = (Scan-skip (length text) h none).counted ∙ candidates_all ps text (length text) refl

@@ -6,7 +6,7 @@
 
 pub mod counting;
 pub mod listing;
-mod marks;
+pub mod marks;
 mod place;
 mod scanning;
 pub mod single;

@@ -108,9 +108,9 @@ module _ (text : List ℤ) (p first : ℕ) (le : p ≤ first) (lt : first ≤ le
       let all = behind 256 p (rw (sym e) (Within-gap text (p - 1) (omega arith) 256 g)) in
       (all.0, λ m k. all.1 m (omega arith))
 
-  -- p is 256 places back
-  pub samples_full : first - p ≡ 256 → Since text first p
-  samples_full e =
+  -- p is 256 places back or more
+  pub samples_full : 256 ≤ first - p → Since text first p
+  samples_full h =
       let all = behind 0 p (omega arith, λ m k. let z : m ≡ 0 = omega arith in rw z (whole_none text p (p - p))) in
       (all.0, λ m k. all.1 m (omega arith))
 

@@ -5,7 +5,6 @@ use Rattle.finder_c.specs.declared.FinderNextList.{FinderNextList}
 use Rattle.finder_c.specs.declared.FinderCode.{FinderCode}
 use Rattle.finder_c.specs.declared.FinderCounts.{FinderCounts}
 use Rattle.finder_c.specs.declared.FinderStreamed.{FinderStreamed}
-use Rattle.finder_c.specs.declared.StreamNumbers.{StreamNumbers}
 use Rattle.finder_c.specs.declared.FinderFirstHit.{FinderFirstHit}
 
 abbrev pub tells_written : FinderWritten → ℕ × ℕ
@@ -22,9 +21,6 @@ tells_counts r = (r.refusal, (r.first, r.second))
 
 abbrev pub tells_streamed : FinderStreamed → ℕ × (ℕ × ℕ × ℕ × ℕ)
 tells_streamed r = (r.refusal, (r.ended, r.taken, r.hits, r.attempts))
-
-abbrev pub tells_numbers : StreamNumbers → ℕ × (ℕ × ℕ × ℕ × ℕ)
-tells_numbers r = (r.refusal, (r.ended, r.taken, r.hits, r.attempts))
 
 abbrev pub tells_first : FinderFirstHit → ℕ × (ℕ × ℕ × ℕ × ℕ)
 tells_first r = (r.refusal, (r.found, r.last, r.pattern, r.read))

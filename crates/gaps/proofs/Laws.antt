@@ -1,6 +1,9 @@
 -- Laws of gaps: what holds none, holds none in its parts, and a sample put behind it keeps it so.
 use Rattle.std.specs.Prelude.{◌≡◌, ◌||◌, ◌∷◌, ◌++◌, ◌+◌, ◌-◌, ◌≤◌, ◌<◌}
-use Rattle.lists.proofs.Prelude.{◌∙◌, ap, sym, refl, Bool, true, false, List, [], map, ℕ, suc, ℤ, pos}
+use Rattle.std.specs.List.{list_any}
+use Rattle.std.specs.Ordering.{int_eq}
+use Rattle.std.proofs.lemmas.Bool.Decides.{nat_tests}
+use Rattle.lists.proofs.Prelude.{◌∙◌, ap, ap₂, sym, refl, Bool, true, false, List, [], map, ℕ, suc, ℤ, pos}
 use Rattle.lists.proofs.Prelude.{negsuc, mag, w32, of_z, eqb, eqb→eq, eq-eqb, ne_eqb, length, drop, drop-drop, arith, any, last_of}
 use Rattle.lists.proofs.Tests.{T-true, test_ext}
 use Rattle.lists.proofs.Members.{none_front, none_drop, any_snoc, none_snoc}
@@ -53,6 +56,18 @@ pub pos_none : (ns : List ℕ) → holds_gap (map pos ns) ≡ false
 unfolding any is_gap
 pos_none [] = refl
 pos_none (n ∷ ns) = pos_none ns
+
+-- ---- the library's test: equal to the gap
+
+equal_gap : (z : ℤ) → int_eq z (negsuc 2147483647) ≡ is_gap z
+unfolding is_gap
+equal_gap (pos n) = refl
+equal_gap (negsuc n) = grind (arith, nat_tests)
+
+pub contains_gap : (xs : List ℤ) → list_any (λ y. int_eq y (negsuc 2147483647)) xs ≡ holds_gap xs
+unfolding any
+contains_gap [] = refl
+contains_gap (x ∷ xs) = ap₂ (λ b c. b || c) (equal_gap x) (contains_gap xs)
 
 -- ---- the machine's test: the bits of a 32-bit value are those of the gap's
 

@@ -2,7 +2,7 @@
 -- child has its parent on its right, as the only place whose left child it is; a right child has
 -- its parent on its left, at its distance; the root is its own.
 use Rattle.std.specs.Prelude.{◌≡◌, ◌⊎◌, ◌&&◌, ◌+◌, ◌-◌, ◌≤◌, ◌<◌}
-use Rattle.lists.proofs.Prelude.{◌∙◌, ap, sym, refl, inl, inr, Bool, Option, none, some, some-injective, none-ne-some, List, ℕ}
+use Rattle.lists.proofs.Prelude.{◌∙◌, ap, sym, refl, inl, inr, Bool, Option, None, Some, same_Some, none-some, List, ℕ}
 use Rattle.lists.proofs.Prelude.{zero, suc, ℤ, T, ltb, eqb→eq, lt→ltb, eqb_refl, length, get_or, take, ext_get_or, arith, last_below}
 use Rattle.lists.proofs.Tests.{and_split, and_join}
 use Rattle.lists.proofs.Tables.{length-tabulate, get_or-tabulate}
@@ -22,22 +22,22 @@ pub length-global_parents : (ds : List ℕ) → length (global_parents ds) ≡ l
 unfolding global_parents
 length-global_parents ds = length-tabulate (length ds) (global_parent ds)
 
-root_of_range : (a c : ℕ) (t : Tree) → root_of a t ≡ some c → (a ≤ c) × (c < a + size t)
+root_of_range : (a c : ℕ) (t : Tree) → root_of a t ≡ Some c → (a ≤ c) × (c < a + size t)
 unfolding size
-root_of_range a c leaf e = absurd (none-ne-some c e)
+root_of_range a c leaf e = absurd (none-some c e)
 root_of_range a c (node l r) e =
-    let q : a + size l ≡ c = some-injective (a + size l) c e in
+    let q : a + size l ≡ c = same_Some (a + size l) c e in
     (omega arith, omega arith)
 
 -- a left child is in the tree, before its parent
-child_range : (a j c : ℕ) (t : Tree) → j < size t → get_or (left_children a t) j none ≡ some c → (a ≤ c) × (c < a + j)
+child_range : (a j c : ℕ) (t : Tree) → j < size t → get_or (left_children a t) j None ≡ Some c → (a ≤ c) × (c < a + j)
 unfolding size
 child_range a j c leaf h e = absurd (let z : ⊥ = omega arith in z)
 child_range a j c (node l r) h e = go j (place (size l) (size r) j h) e (λ k. child_range a k c l) (λ k. child_range (suc (a + size l)) k c r)
   where
-    go : (j : ℕ) → Place (size l) (size r) j → get_or (left_children a (node l r)) j none ≡ some c
-        → ((k : ℕ) → k < size l → get_or (left_children a l) k none ≡ some c → (a ≤ c) × (c < a + k))
-        → ((k : ℕ) → k < size r → get_or (left_children (suc (a + size l)) r) k none ≡ some c → (suc (a + size l) ≤ c) × (c < suc (a + size l) + k))
+    go : (j : ℕ) → Place (size l) (size r) j → get_or (left_children a (node l r)) j None ≡ Some c
+        → ((k : ℕ) → k < size l → get_or (left_children a l) k None ≡ Some c → (a ≤ c) × (c < a + k))
+        → ((k : ℕ) → k < size r → get_or (left_children (suc (a + size l)) r) k None ≡ Some c → (suc (a + size l) ≤ c) × (c < suc (a + size l) + k))
         → (a ≤ c) × (c < a + j)
     go j (before h) e hl hr = hl j h (rw (child_left a l r j h) at e)
     go _ here e hl hr = root_of_range a c l (rw (child_root a l r) at e)
@@ -46,15 +46,15 @@ child_range a j c (node l r) h e = go j (place (size l) (size r) j h) e (λ k. c
         (omega (arith, p.0), omega (arith, p.1))
 
 -- the root has the parent that is given
-parent_root_of : (a g k : ℕ) (t : Tree) → root_of a t ≡ some (a + k) → get_or (parents_from a g t) k 0 ≡ g
-parent_root_of a g k leaf e = absurd (none-ne-some (a + k) e)
+parent_root_of : (a g k : ℕ) (t : Tree) → root_of a t ≡ Some (a + k) → get_or (parents_from a g t) k 0 ≡ g
+parent_root_of a g k leaf e = absurd (none-some (a + k) e)
 parent_root_of a g k (node l r) e =
-    let q : a + size l ≡ a + k = some-injective (a + size l) (a + k) e in
+    let q : a + size l ≡ a + k = same_Some (a + size l) (a + k) e in
     let p : k ≡ size l = omega arith in
     rw p (parent_root a g l r)
 
 -- the place whose left child is k is the parent of k
-parent_of_child : (a g j k : ℕ) (t : Tree) → j < size t → k < size t → get_or (left_children a t) j none ≡ some (a + k) → get_or (parents_from a g t) k 0
+parent_of_child : (a g j k : ℕ) (t : Tree) → j < size t → k < size t → get_or (left_children a t) j None ≡ Some (a + k) → get_or (parents_from a g t) k 0
     ≡ a + j
 unfolding size
 parent_of_child a g j k leaf hj hk e = absurd (let z : ⊥ = omega arith in z)
@@ -62,9 +62,9 @@ parent_of_child a g j k (node l r) hj hk e =
     go j (place (size l) (size r) j hj) k (place (size l) (size r) k hk) e (λ i n. parent_of_child a (a + size l) i n l)
     (λ i n. parent_of_child (suc (a + size l)) (a + size l) i n r)
   where
-    go : (j : ℕ) → Place (size l) (size r) j → (k : ℕ) → Place (size l) (size r) k → get_or (left_children a (node l r)) j none ≡ some (a + k)
-        → ((i n : ℕ) → i < size l → n < size l → get_or (left_children a l) i none ≡ some (a + n) → get_or (parents_from a (a + size l) l) n 0 ≡ a + i)
-        → ((i n : ℕ) → i < size r → n < size r → get_or (left_children (suc (a + size l)) r) i none ≡ some (suc (a + size l) + n) → get_or
+    go : (j : ℕ) → Place (size l) (size r) j → (k : ℕ) → Place (size l) (size r) k → get_or (left_children a (node l r)) j None ≡ Some (a + k)
+        → ((i n : ℕ) → i < size l → n < size l → get_or (left_children a l) i None ≡ Some (a + n) → get_or (parents_from a (a + size l) l) n 0 ≡ a + i)
+        → ((i n : ℕ) → i < size r → n < size r → get_or (left_children (suc (a + size l)) r) i None ≡ Some (suc (a + size l) + n) → get_or
         (parents_from (suc (a + size l)) (a + size l) r) n 0 ≡ suc (a + size l) + i)
         → get_or (parents_from a g (node l r)) k 0 ≡ a + j
     go j (before h) k (before h') e hl hr = parent_left a g l r k h' ∙ hl j k h h' (rw (child_left a l r j h) at e)
@@ -93,13 +93,13 @@ parent_of_child a g j k (node l r) hj hk e =
 
 -- place k of a tree whose first place is a is no left child
 abbrev NoLeftChild : ℕ → Tree → ℕ → Type 0
-NoLeftChild a t k = (j : ℕ) → j < size t → get_or (left_children a t) j none ≡ some (a + k) → ⊥
+NoLeftChild a t k = (j : ℕ) → j < size t → get_or (left_children a t) j None ≡ Some (a + k) → ⊥
 
 -- place k is the root, with the distance 0 and the parent g, or its parent is before it at its
 -- distance
 abbrev RootOrBefore : ℕ → ℕ → Tree → ℕ → Type 0
 RootOrBefore a g t k =
-    ((root_of a t ≡ some (a + k)) × (get_or (tree_distances t) k 0 ≡ 0) × (get_or (parents_from a g t) k 0 ≡ g))
+    ((root_of a t ≡ Some (a + k)) × (get_or (tree_distances t) k 0 ≡ 0) × (get_or (parents_from a g t) k 0 ≡ g))
     ⊎ ((0 < get_or (tree_distances t) k 0) × (get_or (parents_from a g t) k 0 + get_or (tree_distances t) k 0 ≡ a + k))
 
 parent_of_other : (a g k : ℕ) (t : Tree) → k < size t → NoLeftChild a t k → RootOrBefore a g t k
@@ -134,23 +134,23 @@ parent_of_other a g k (node l r) h f =
     go _ here f hl hr = inl (refl, distance_root l r, parent_root a g l r)
     go _ (after k h) f hl hr =
         let q : suc (a + size l) + k ≡ a + (size l + suc k) = omega arith in
-        right k h (hr k h (λ j i e. f (size l + suc j) (omega arith) (child_right a l r j ∙ e ∙ ap some q)))
+        right k h (hr k h (λ j i e. f (size l + suc j) (omega arith) (child_right a l r j ∙ e ∙ ap Some q)))
 
 -- ---- global parents
 
-last_child : (t : Tree) (j : ℕ) → j < size t → last_left_child 0 (tree_of (take (suc j) (tree_distances t))) ≡ get_or (left_children 0 t) j none
+last_child : (t : Tree) (j : ℕ) → j < size t → last_left_child 0 (tree_of (take (suc j) (tree_distances t))) ≡ get_or (left_children 0 t) j None
 last_child t j h = ap (last_left_child 0) (tree_of-take (suc j) t) ∙ last_prefix 0 j t h
 
 -- i is the prefix child of j exactly if it is the left child of j in the tree
-prefix_child : (t : Tree) (i j : ℕ) → j < size t → T (is_prefix_child (tree_distances t) i j) → get_or (left_children 0 t) j none ≡ some i
+prefix_child : (t : Tree) (i j : ℕ) → j < size t → T (is_prefix_child (tree_distances t) i j) → get_or (left_children 0 t) j None ≡ Some i
 unfolding is_prefix_child
-prefix_child t i j h p = go (get_or (left_children 0 t) j none) (last_child t j h)
+prefix_child t i j h p = go (get_or (left_children 0 t) j None) (last_child t j h)
   where
-    go : (o : Option ℕ) → last_left_child 0 (tree_of (take (suc j) (tree_distances t))) ≡ o → o ≡ some i
-    go none e = absurd (rw e at p)
-    go (some c) e = ap some (eqb→eq c i (rw e at p))
+    go : (o : Option ℕ) → last_left_child 0 (tree_of (take (suc j) (tree_distances t))) ≡ o → o ≡ Some i
+    go None e = absurd (rw e at p)
+    go (Some c) e = ap Some (eqb→eq c i (rw e at p))
 
-child_prefix : (t : Tree) (i j : ℕ) → j < size t → get_or (left_children 0 t) j none ≡ some i → T (is_prefix_child (tree_distances t) i j)
+child_prefix : (t : Tree) (i j : ℕ) → j < size t → get_or (left_children 0 t) j None ≡ Some i → T (is_prefix_child (tree_distances t) i j)
 unfolding is_prefix_child
 child_prefix t i j h e = rw (last_child t j h ∙ e) (eqb_refl i)
 
@@ -169,7 +169,7 @@ global_parent-node l r i h = go (last_below test (length ds)) refl
 
     other : RootOrBefore 0 (size l) t i → i - get_or ds i 0 ≡ get_or (parents_from 0 (size l) t) i 0
     other (inl p) =
-        let e : 0 + size l ≡ 0 + i = some-injective (0 + size l) (0 + i) p.0 in
+        let e : 0 + size l ≡ 0 + i = same_Some (0 + size l) (0 + i) p.0 in
         rw (p.1, p.2) (omega arith)
     other (inr p) = omega (arith, p.1)
 
@@ -178,14 +178,14 @@ global_parent-node l r i h = go (last_below test (length ds)) refl
         rw e
         (other (parent_of_other 0 (size l) i t h
         (λ j hj c.
-        let c' : get_or (left_children 0 t) j none ≡ some i = c ∙ ap some (omega arith) in
+        let c' : get_or (left_children 0 t) j None ≡ Some i = c ∙ ap Some (omega arith) in
         let b = child_range 0 j i t hj c' in
         last_below_none test (length ds) j (omega arith) (rw length-tree_distances hj)
         (and_join (ltb i j) (is_prefix_child ds i j) (lt→ltb i j (omega (arith, b.1))) (child_prefix t i j hj c')))))
     go (suc j) e =
         let hj : j < size t = omega (arith, last_below-le test (length ds), length-tree_distances t) in
         let p = and_split (ltb i j) (is_prefix_child ds i j) (last_below_passes test (length ds) j e) in
-        let c : get_or (left_children 0 t) j none ≡ some (0 + i) = prefix_child t i j hj p.1 ∙ ap some (omega arith) in
+        let c : get_or (left_children 0 t) j None ≡ Some (0 + i) = prefix_child t i j hj p.1 ∙ ap Some (omega arith) in
         rw e (sym (parent_of_child 0 (size l) j i t hj h c ∙ (omega arith)))
 
 pub global_parent_tree : (t : Tree) (i : ℕ) → i < size t → global_parent (tree_distances t) i ≡ get_or (parents t) i 0

@@ -1,7 +1,7 @@
 -- The left children, the distances and the parents of a node, part by part: at a place on its left,
 -- at its root, at a place on its right.
 use Rattle.std.specs.Prelude.{◌≡◌, ◌∷◌, ◌+◌, ◌<◌}
-use Rattle.lists.proofs.Prelude.{◌∙◌, ap, refl, ap₂, none, ℕ, suc, length, get_or, length-append, get_or_at, arith}
+use Rattle.lists.proofs.Prelude.{◌∙◌, ap, refl, ap₂, None, ℕ, suc, length, get_or, length-append, get_or_at, arith}
 use Rattle.lists.proofs.Places.{get_or_before, get_or_after}
 use Rattle.cartesian.specs.Cartesian.{Tree, leaf, node, size}
 use Rattle.cartesian.proofs.Structure.{or_else, lift, tree_distances, length-tree_distances, get_or-lift}
@@ -34,17 +34,17 @@ parent_right a g l r k =
     get_or_after (parents_from a (a + size l) l) g (parents_from (suc (a + size l)) (a + size l) r) 0 (size l) k (length-parents_from a (a + size l) l)
 
 -- the three parts of the left children of a node
-pub child_left : (a : ℕ) (l r : Tree) (k : ℕ) → k < size l → get_or (left_children a (node l r)) k none ≡ get_or (left_children a l) k none
+pub child_left : (a : ℕ) (l r : Tree) (k : ℕ) → k < size l → get_or (left_children a (node l r)) k None ≡ get_or (left_children a l) k None
 unfolding left_children
-child_left a l r k h = get_or_before (left_children a l) (root_of a l) (left_children (suc (a + size l)) r) none (size l) k (length-left_children a l) h
+child_left a l r k h = get_or_before (left_children a l) (root_of a l) (left_children (suc (a + size l)) r) None (size l) k (length-left_children a l) h
 
-pub child_root : (a : ℕ) (l r : Tree) → get_or (left_children a (node l r)) (size l) none ≡ root_of a l
+pub child_root : (a : ℕ) (l r : Tree) → get_or (left_children a (node l r)) (size l) None ≡ root_of a l
 unfolding left_children
-child_root a l r = get_or_at (left_children a l) (root_of a l) (left_children (suc (a + size l)) r) none (size l) (length-left_children a l)
+child_root a l r = get_or_at (left_children a l) (root_of a l) (left_children (suc (a + size l)) r) None (size l) (length-left_children a l)
 
-pub child_right : (a : ℕ) (l r : Tree) (k : ℕ) → get_or (left_children a (node l r)) (size l + suc k) none ≡ get_or (left_children (suc (a + size l)) r) k none
+pub child_right : (a : ℕ) (l r : Tree) (k : ℕ) → get_or (left_children a (node l r)) (size l + suc k) None ≡ get_or (left_children (suc (a + size l)) r) k None
 unfolding left_children
-child_right a l r k = get_or_after (left_children a l) (root_of a l) (left_children (suc (a + size l)) r) none (size l) k (length-left_children a l)
+child_right a l r k = get_or_after (left_children a l) (root_of a l) (left_children (suc (a + size l)) r) None (size l) k (length-left_children a l)
 
 -- the three parts of the distances of a node
 pub distance_left : (l r : Tree) (k : ℕ) → k < size l → get_or (tree_distances (node l r)) k 0 ≡ get_or (tree_distances l) k 0

@@ -1,7 +1,7 @@
 -- The tree over the first places of a tree: its distances are the first distances,
 -- and the left child of its last place is the left child that this place has in the whole tree.
 use Rattle.std.specs.Prelude.{◌≡◌, ◌∷◌, ◌++◌, ◌+◌, ◌-◌, ◌≤◌, ◌<◌}
-use Rattle.lists.proofs.Prelude.{◌∙◌, ap, sym, refl, ap₂, cond, Option, none, List, [], ℕ, zero, suc, min, leb, length}
+use Rattle.lists.proofs.Prelude.{◌∙◌, ap, sym, refl, ap₂, cond, Option, None, List, [], ℕ, zero, suc, min, leb, length}
 use Rattle.lists.proofs.Prelude.{get_or, take, length-append, length-take, get_or_at, take-append-le, take-nil, take-append-add, dec_lt, arith, le-leb, lt-leb}
 use Rattle.lists.proofs.Places.{Place, before, here, after, place, get_or_before, get_or_after}
 use Rattle.cartesian.specs.Cartesian.{Tree, leaf, node, size, tree_of}
@@ -88,22 +88,22 @@ unfolding last_left_child size
 last_right a l leaf h = absurd (let z : ⊥ = omega arith in z)
 last_right a l (node m r) h = refl
 
-pub last_prefix : (a j : ℕ) (t : Tree) → j < size t → last_left_child a (prefix_tree (suc j) t) ≡ get_or (left_children a t) j none
+pub last_prefix : (a j : ℕ) (t : Tree) → j < size t → last_left_child a (prefix_tree (suc j) t) ≡ get_or (left_children a t) j None
 unfolding left_children size last_left_child
 last_prefix a j leaf h = absurd (let z : ⊥ = omega arith in z)
 last_prefix a j (node l r) h = go j (place (size l) (size r) j h) (λ k. last_prefix a k l) (λ k. last_prefix (suc (a + size l)) k r)
   where
     go : (j : ℕ) → Place (size l) (size r) j
-        → ((k : ℕ) → k < size l → last_left_child a (prefix_tree (suc k) l) ≡ get_or (left_children a l) k none)
-        → ((k : ℕ) → k < size r → last_left_child (suc (a + size l)) (prefix_tree (suc k) r) ≡ get_or (left_children (suc (a + size l)) r) k none)
-        → last_left_child a (prefix_tree (suc j) (node l r)) ≡ get_or (left_children a l ++ (root_of a l ∷ left_children (suc (a + size l)) r)) j none
+        → ((k : ℕ) → k < size l → last_left_child a (prefix_tree (suc k) l) ≡ get_or (left_children a l) k None)
+        → ((k : ℕ) → k < size r → last_left_child (suc (a + size l)) (prefix_tree (suc k) r) ≡ get_or (left_children (suc (a + size l)) r) k None)
+        → last_left_child a (prefix_tree (suc j) (node l r)) ≡ get_or (left_children a l ++ (root_of a l ∷ left_children (suc (a + size l)) r)) j None
     go j (before h) hl hr =
-        let left = get_or_before (left_children a l) (root_of a l) (left_children (suc (a + size l)) r) none (size l) j (length-left_children a l) h in
+        let left = get_or_before (left_children a l) (root_of a l) (left_children (suc (a + size l)) r) None (size l) j (length-left_children a l) h in
         rw (prefix_left (suc j) l r h, left) (hl j h)
     go _ here hl hr =
         let e : suc (size l) ≡ size l + 1 = omega arith in
         rw (e, prefix_right 0 l r, prefix_none r)
-        (sym (get_or_at (left_children a l) (root_of a l) (left_children (suc (a + size l)) r) none (size l) (length-left_children a l)))
+        (sym (get_or_at (left_children a l) (root_of a l) (left_children (suc (a + size l)) r) None (size l) (length-left_children a l)))
     go _ (after k h) hl hr =
         let e : suc (size l + suc k) ≡ size l + suc (suc k) = omega arith in
         rw (
@@ -111,6 +111,6 @@ last_prefix a j (node l r) h = go j (place (size l) (size r) j h) (λ k. last_pr
           prefix_right (suc k) l r,
           last_right a l (prefix_tree (suc k) r) (prefix_some k r h),
           get_or_after (left_children a l) (root_of a l)
-              (left_children (suc (a + size l)) r) none (size l) k (length-left_children a l),
+              (left_children (suc (a + size l)) r) None (size l) k (length-left_children a l),
         )
         (hr k h)

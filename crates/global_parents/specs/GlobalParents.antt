@@ -1,16 +1,16 @@
 -- Global parents. Document 01 (and 000): Global parent.
 use Rattle.std.specs.Prelude.{◌&&◌, ◌+◌, ◌-◌}
-use Rattle.lists.specs.Prelude.{Bool, false, Option, none, some, List, ℕ, zero, suc, eqb, ltb, length, get_or, take, tabulate, last_below}
+use Rattle.lists.specs.Prelude.{Bool, false, Option, None, Some, List, ℕ, zero, suc, eqb, ltb, length, get_or, take, tabulate, last_below}
 use Rattle.cartesian.specs.Cartesian.{Tree, leaf, node, size, tree_of}
 
 -- the place of the root of a tree whose first place is a
 abbrev pub root_of : ℕ → Tree → Option ℕ
-root_of a leaf = none
-root_of a (node l r) = some (a + size l)
+root_of a leaf = None
+root_of a (node l r) = Some (a + size l)
 
 -- the left child of the last place of a tree whose first place is a
 unfoldable pub last_left_child : ℕ → Tree → Option ℕ
-last_left_child a leaf = none
+last_left_child a leaf = None
 last_left_child a (node l leaf) = root_of a l
 last_left_child a (node l (node m r)) = last_left_child (suc (a + size l)) (node m r)
 
@@ -19,8 +19,8 @@ unfoldable pub is_prefix_child : List ℕ → ℕ → ℕ → Bool
 is_prefix_child ds i j = is (last_left_child 0 (tree_of (take (suc j) ds)))
   where
     is : Option ℕ → Bool
-    is none = false
-    is (some c) = eqb c i
+    is None = false
+    is (Some c) = eqb c i
 
 -- the place after i whose prefix child is i, and where there is none, i minus its distance
 unfoldable pub global_parent : List ℕ → ℕ → ℕ

@@ -11,6 +11,7 @@ use hits_pieces::{first, search};
 
 // Writes the pieces of a search, one after the other, up to the last or to a write that fails.
 // Every piece but the last brings the search nearer to its end.
+// Seven parameters: lent arrays of the program, which its pieces name one by one.
 fn write_pieces(
     rt: &HostRuntime,
     set: &[u32],
@@ -38,6 +39,7 @@ fn write_pieces(
 
 // Writes the first piece, and where more follows the pieces of the search over the text's first
 // values.
+// Seven parameters: lent arrays of the program, which its pieces name one by one.
 fn write_answer(
     rt: &HostRuntime,
     bytes: &[u8],

@@ -1,12 +1,14 @@
 -- The hits of an accepted call, read off the array that was lent: their words lie at its front, and
 -- their numbers are those of patterns.
-use Rattle.std.specs.Prelude.{◌≡◌, ◌⊎◌, ◌∷◌, ◌++◌, ◌+◌, ◌-◌, ◌*◌, ◌/◌, ◌≤◌, ◌<◌}
+use Rattle.std.specs.Prelude.{Ok, Err, ◌≡◌, ◌⊎◌, ◌∷◌, ◌++◌, ◌+◌, ◌-◌, ◌*◌, ◌/◌, ◌≤◌, ◌<◌}
 use Rattle.lists.proofs.Prelude.{◌∙◌, ap, sym, refl, subst, ap₂, inl, inr, Bool, true, false, cond, List, [], map, Memᴰ}
 use Rattle.lists.proofs.Prelude.{append_assoc, Memᴰ-not-nil, Memᴰ-append_cases, flatten, ℕ, zero, suc, min, ℤ, ltb}
 use Rattle.lists.proofs.Prelude.{length, get_or, take, drop, length-append, length-drop, length-take-le, arith, tabulate, same}
 use Rattle.lists.proofs.Select.{mem-select}
 use Rattle.lists.proofs.Members.{mem_below, get_or-mem, mem-map}
-use Rattle.answers.specs.declared.SearchState.{SearchState}
+use Rattle.answers.specs.declared.{SearchState.{SearchState}, Refusal.{Refusal}}
+use Rattle.answers.specs.Told.{number}
+use Rattle.answers.proofs.Refusals.{number_positive}
 use Rattle.pattern_set.specs.PatternSet.{PatternSet, patterns_of}
 use Rattle.matching.specs.Matching.{hit_words, chain}
 use Rattle.matching.proofs.HitWords.{length-hit_words}
@@ -18,8 +20,8 @@ use Rattle.search_model.specs.Ring.{distance_of}
 use Rattle.matching.specs.HitsIn.{hits_in}
 use Rattle.matching.proofs.HitsIn.{hit_in_words, hits_in_words}
 use Rattle.hits_output.specs.Output.{hit_lines}
-use Rattle.hits_calls.specs.declared.calls.Step.{Step}
-use Rattle.hits_calls.specs.Called.{hit_front, tells, batch, summed, summary, IsCalled}
+use Rattle.hits_calls.specs.declared.calls.{Step.{Step}, Batch.{Batch}}
+use Rattle.hits_calls.specs.Called.{hit_front, tells, batch, summed, summary, told_batch, bytes_of, IsCalled}
 
 -- ---- the numbers of hits are those of patterns
 
@@ -136,13 +138,13 @@ drop_room room hits h = ap (λ (n : ℕ). drop n hits) (sym (length-take-le room
 
 module _ (ws au : List ℕ) (st : SearchState) (xs : List ℤ) (hits : List ℕ) (rises risen : List ℤ) (out part after' : List ℕ) (room : ℕ) (r : Step)
     (q : room ≡ min (length hits) (2 * (length out / 63))) (l : room ≤ length hits)
-    (t : summed r.refused r.more r.hits r.attempts ≡ summary (told (0, 0, 0, 0) (stream_entry ws au st xs (take room hits) rises)))
+    (t : told_batch r.answer ≡ summary (told (0, 0, 0, 0) (stream_entry ws au st xs (take room hits) rises)))
     (s : r.state ≡ stream_state ws au st xs (take room hits) rises)
     (w : part ≡ after (stream_entry ws au st xs (take room hits) rises) (take room hits))
     (u : risen ≡ after (stream_rises ws au st xs (take room hits) rises) rises) where
   -- the text is that of the call
   abbrev IsText : List ℕ → Type 0
-  IsText text = (r.bytes ≡ length text) × (after' ≡ text ++ drop (length text) out)
+  IsText text = (bytes_of r.answer ≡ length text) × (after' ≡ text ++ drop (length text) out)
 
   called : IsText (batch ws au st xs (take room hits) rises) → IsCalled ws au st xs hits rises out (part ++ drop room hits) risen after' r
   called x = record {
@@ -156,35 +158,41 @@ module _ (ws au : List ℕ) (st : SearchState) (xs : List ℤ) (hits : List ℕ)
     text = x.1 ∙ ap (λ (n : ℕ). batch ws au st xs (take n hits) rises ++ drop (length (batch ws au st xs (take n hits) rises)) out) q;
   }
 
-  refusal_is : r.refused ≡ first_met (stream_conditions ws au st xs (take room hits) rises)
+  refusal_is : (told_batch r.answer).0 ≡ first_met (stream_conditions ws au st xs (take room hits) rises)
   refusal_is = ap (λ (z : ℕ × (Bool × ℕ × ℕ)). z.0) t
 
   -- accepted
-  pub called_accepted : r.refused ≡ 0 → length part ≡ length (take room hits)
-      → IsText (hit_lines (patterns_of ws) (hits_in (part ++ drop room hits) r.hits))
+  pub called_accepted : (b : Batch) → r.answer ≡ Ok b → length part ≡ length (take room hits)
+      → b.bytes ≡ length (hit_lines (patterns_of ws) (hits_in (part ++ drop room hits) b.hits))
+      → after' ≡ hit_lines (patterns_of ws) (hits_in (part ++ drop room hits) b.hits)
+      ++ drop (length (hit_lines (patterns_of ws) (hits_in (part ++ drop room hits) b.hits))) out
       → IsCalled ws au st xs hits rises out (part ++ drop room hits) risen after' r
-  called_accepted z same x =
-      let e : first_met (stream_conditions ws au st xs (take room hits) rises) ≡ 0 = sym refusal_is ∙ z in
+  called_accepted b z same x y =
+      let e : first_met (stream_conditions ws au st xs (take room hits) rises) ≡ 0 = sym refusal_is ∙ ap (λ a. (told_batch a).0) z in
       let f = (stream_call ws st xs (take room hits)).hits in
-      let n : r.hits ≡ length f = told_count ws au st xs (take room hits) rises part e w same r.refused r.more r.hits r.attempts t in
-      let h : hits_in (part ++ drop room hits) r.hits ≡ f =
+      let n : b.hits ≡ length f =
+      told_count ws au st xs (take room hits) rises part e w same 0 b.more b.hits b.attempts (sym (ap told_batch z) ∙ t) in
+      let h : hits_in (part ++ drop room hits) b.hits ≡ f =
       ap (hits_in (part ++ drop room hits)) n ∙ hits_read ws au st xs (take room hits) rises part e w same (drop room hits) in
-      let b : hit_lines (patterns_of ws) (hits_in (part ++ drop room hits) r.hits) ≡ batch ws au st xs (take room hits) rises =
+      let text : hit_lines (patterns_of ws) (hits_in (part ++ drop room hits) b.hits) ≡ batch ws au st xs (take room hits) rises =
       ap (hit_lines (patterns_of ws)) h ∙ sym (ap (λ (m : ℕ). unless m (hit_lines (patterns_of ws) f) []) e) in
-      called (subst IsText b x)
+      called (subst IsText text (ap bytes_of z ∙ x, y))
 
   -- refused
-  pub called_refused : (r.refused ≡ 0 → ⊥) → r.bytes ≡ 0 → after' ≡ out → IsCalled ws au st xs hits rises out (part ++ drop room hits) risen after' r
-  called_refused z b o = called (subst IsText (sym (none (first_met (stream_conditions ws au st xs (take room hits) rises)) (λ e. z (refusal_is ∙ e)))) (b, o))
+  pub called_refused : (e : Refusal) → r.answer ≡ Err e → after' ≡ out → IsCalled ws au st xs hits rises out (part ++ drop room hits) risen after' r
+  called_refused e z o =
+      called
+      (subst IsText (sym (none (first_met (stream_conditions ws au st xs (take room hits) rises)) (sym (ap (λ a. (told_batch a).0) z) ∙ refusal_is)))
+      (ap bytes_of z, o))
     where
-      none : (m : ℕ) → (m ≡ 0 → ⊥) → unless m (hit_lines (patterns_of ws) (stream_call ws st xs (take room hits)).hits) [] ≡ []
-      none zero f = absurd (f refl)
+      none : (m : ℕ) → number e ≡ m → unless m (hit_lines (patterns_of ws) (stream_call ws st xs (take room hits)).hits) [] ≡ []
+      none zero f = absurd (let z : ⊥ = omega (arith, f, number_positive e) in z)
       none (suc m) f = refl
 
 -- the text lies within the buffer
 pub called_fits : (ws au : List ℕ) (st : SearchState) (xs : List ℤ) (hits : List ℕ) (rises : List ℤ) (out hits' : List ℕ) (risen : List ℤ)
     (after' : List ℕ) (r : Step)
-    → IsCalled ws au st xs hits rises out hits' risen after' r → r.bytes ≤ length after'
+    → IsCalled ws au st xs hits rises out hits' risen after' r → bytes_of r.answer ≤ length after'
 called_fits ws au st xs hits rises out hits' risen after' r c =
     let text = batch ws au st xs (hit_front hits out) rises in
     omega (arith, c.bytes, ap length c.text, length-append text (drop (length text) out))

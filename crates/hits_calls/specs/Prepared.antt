@@ -1,8 +1,15 @@
 -- What the calls leave that make the set and its automaton, by the entries' definitions one after
 -- the other.
-use Rattle.std.specs.Prelude.{◌∷◌, ◌-◌}
+use Rattle.std.specs.Prelude.{◌∷◌, ◌-◌, Result, Ok, Err}
 use Rattle.lists.specs.Prelude.{List, [], ℕ, ℤ, take, drop}
+use Rattle.answers.specs.declared.Refusal.{Refusal}
+use Rattle.answers.specs.Told.{number}
 use Rattle.entries.specs.Entries.{first_met, unless, after, empty_set_entry, add_entry, build_entry}
+
+-- the number of a refusal, and 0 for none
+abbrev pub refused_of : {A : Type 0} → Result A Refusal → ℕ
+refused_of (Ok a) = 0
+refused_of (Err r) = number r
 
 -- the patterns whose values lie one after the other from a place on, each up to its end
 unfoldable pub parts_of : ℕ → List ℕ → List ℤ → List (List ℤ)

@@ -1,91 +1,54 @@
 -- FITS: how much an input can hold, and the front of the arrays that hold it. A caller of
 -- `read_input` cites these.
-use Rattle.std.specs.Prelude.{◌≡◌, ◌&&◌, ◌∷◌, ◌++◌, ◌+◌, ◌*◌, ◌≤◌}
-use Rattle.lists.proofs.Prelude.{none-ne-some, ◌∙◌, ap, sym, refl, subst, Bool, true, false, Option, none, some, some-injective}
-use Rattle.lists.proofs.Prelude.{List, [], flatten, ℕ, suc, zero-le, ℤ, eqb, leb, length, get_or, take, drop, length-append, take_at}
+use Rattle.std.specs.Prelude.{◌≡◌, ◌≤◌}
+use Rattle.lists.proofs.Prelude.{none-some, ◌∙◌, ap, sym, refl, subst, Bool, true, false, Option, None, Some, same_Some}
+use Rattle.lists.proofs.Prelude.{List, flatten, ℕ, ℤ, leb, length, take, drop, take_at}
 use Rattle.lists.proofs.Prelude.{take-append_seam, arith, leb-true}
-use Rattle.hits_input.specs.declared.Parsed.{Parsed}
-use Rattle.hits_input.specs.Input.{and_then, when, parts, read_line, Input, read_lines, read_input}
+use Rattle.hits_input.specs.declared.InputSize.{InputSize}
+use Rattle.hits_input.specs.Input.{when, parts, Input, read_lines, read_input}
 use Rattle.hits_input.specs.Read.{ends_of, HasInput, IsRead}
-use Rattle.hits_input.specs.Steps.{behind, limited}
-use Rattle.hits_input.proofs.Cutting.{weight, weight-parts}
-use Rattle.hits_input.proofs.Lines.{line_short, line_some}
+use Rattle.hits_input.specs.Steps.{limited}
+use Rattle.hits_input.proofs.Cutting.{weight-parts}
+use Rattle.hits_input.proofs.Lines.{lines-Bounds}
 use Rattle.hits_input.proofs.Inputs.{length-ends_of}
-
--- ---- what lines can hold
-
--- an input that was read from so many bytes
-record Bounds (size : ℕ) (i : Input) : Type 0 where
-  -- each pattern has a value
-  few : length i.patterns ≤ length (flatten i.patterns)
-  -- each value of the text takes two of the bytes
-  short : 2 * length i.text ≤ size
-
-lines-Bounds : (ls : List (List ℕ)) (i : Input) → read_lines ls ≡ some i → Bounds (weight ls) i
-unfolding read_lines weight flatten
-lines-Bounds [] i e = absurd (none-ne-some _ e)
-lines-Bounds ([] ∷ ls) i e = go (eqb (length ls) 2 && eqb (length (get_or ls 1 [])) 0) (read_line (get_or ls 0 [])) refl e
-  where
-    first : (ls : List (List ℕ)) → suc (length (get_or ls 0 [])) ≤ 1 + weight ls
-    first [] = omega arith
-    first (l ∷ ls) = omega arith
-
-    go : (t : Bool) (o : Option (List ℤ)) → read_line (get_or ls 0 []) ≡ o
-        → when t (and_then {B = Input} o (λ xs. some (record { patterns = []; text = xs }))) ≡ some i → Bounds (1 + weight ls) i
-    go false o q s = absurd (none-ne-some _ s)
-    go true none q s = absurd (none-ne-some _ s)
-    go true (some xs) q s =
-        subst (Bounds (1 + weight ls)) (some-injective _ _ s)
-        (record { few = zero-le; short = omega (arith, line_short (get_or ls 0 []) xs q, first ls) })
-lines-Bounds ((b ∷ bs) ∷ ls) i e = go (read_line (b ∷ bs)) refl (read_lines ls) (lines-Bounds ls) e
-  where
-    go : (o : Option (List ℤ)) → read_line (b ∷ bs) ≡ o → (r : Option Input) → ((j : Input) → r ≡ some j → Bounds (weight ls) j)
-        → and_then o (λ p. behind (p ∷ []) r) ≡ some i → Bounds (suc (suc (length bs)) + weight ls) i
-    go none q r ih s = absurd (none-ne-some _ s)
-    go (some p) q none ih s = absurd (none-ne-some _ s)
-    go (some p) q (some j) ih s =
-        let w = ih j refl in
-        let n : length (p ++ flatten j.patterns) ≡ length p + length (flatten j.patterns) = length-append p (flatten j.patterns) in
-        subst (Bounds (suc (suc (length bs)) + weight ls)) (some-injective _ _ s)
-        (record { few = omega (arith, n, w.few, line_some (b ∷ bs) p (omega arith) q); short = omega (arith, w.short) })
 
 -- ---- what an input can hold
 
 -- these bytes are an input
 record Taken (bytes : List ℕ) (i : Input) : Type 0 where
   few : length bytes ≤ 65536
-  lines : read_lines (parts 10 bytes) ≡ some i
+  lines : read_lines (parts 10 bytes) ≡ Some i
   limit : length (flatten i.patterns) ≤ 1023
 
-taken : (bytes : List ℕ) (i : Input) → read_input bytes ≡ some i → Taken bytes i
+taken : (bytes : List ℕ) (i : Input) → read_input bytes ≡ Some i → Taken bytes i
 unfolding read_input
 taken bytes i e = go (leb (length bytes) 65536) refl (read_lines (parts 10 bytes)) refl e
   where
-    last : (j : Input) → length bytes ≤ 65536 → read_lines (parts 10 bytes) ≡ some j → (t : Bool) → leb (length (flatten j.patterns)) 1023 ≡ t
-        → when t (some j) ≡ some i → Taken bytes i
-    last j h q false p s = absurd (none-ne-some _ s)
+    last : (j : Input) → length bytes ≤ 65536 → read_lines (parts 10 bytes) ≡ Some j → (t : Bool) → leb (length (flatten j.patterns)) 1023 ≡ t
+        → when t (Some j) ≡ Some i → Taken bytes i
+    last j h q false p s = absurd (none-some _ s)
     last j h q true p s =
-        subst (Taken bytes) (some-injective _ _ s) (record { few = h; lines = q; limit = leb-true (length (flatten j.patterns)) 1023 p })
+        subst (Taken bytes) (same_Some _ _ s) (record { few = h; lines = q; limit = leb-true (length (flatten j.patterns)) 1023 p })
 
-    go : (t : Bool) → leb (length bytes) 65536 ≡ t → (o : Option Input) → read_lines (parts 10 bytes) ≡ o → when t (limited o) ≡ some i → Taken bytes i
-    go false p o q s = absurd (none-ne-some _ s)
-    go true p none q s = absurd (none-ne-some _ s)
-    go true p (some j) q s = last j (leb-true (length bytes) 65536 p) q (leb (length (flatten j.patterns)) 1023) refl s
+    go : (t : Bool) → leb (length bytes) 65536 ≡ t → (o : Option Input) → read_lines (parts 10 bytes) ≡ o → when t (limited o) ≡ Some i → Taken bytes i
+    go false p o q s = absurd (none-some _ s)
+    go true p None q s = absurd (none-some _ s)
+    go true p (Some j) q s = last j (leb-true (length bytes) 65536 p) q (leb (length (flatten j.patterns)) 1023) refl s
 
 -- the patterns have at most 1,023 values in all
-pub values_fit : (bytes : List ℕ) (i : Input) → read_input bytes ≡ some i → length (flatten i.patterns) ≤ 1023
+pub values_fit : (bytes : List ℕ) (i : Input) → read_input bytes ≡ Some i → length (flatten i.patterns) ≤ 1023
 values_fit bytes i e = (taken bytes i e).limit
 
 -- there are no more patterns than values
-pub patterns_few : (bytes : List ℕ) (i : Input) → read_input bytes ≡ some i → length i.patterns ≤ length (flatten i.patterns)
+pub patterns_few : (bytes : List ℕ) (i : Input) → read_input bytes ≡ Some i → length i.patterns ≤ length (flatten i.patterns)
 patterns_few bytes i e = (lines-Bounds (parts 10 bytes) i (taken bytes i e).lines).few
 
 -- so there are at most 1,023 patterns
-pub patterns_fit : (bytes : List ℕ) (i : Input) → read_input bytes ≡ some i → length i.patterns ≤ 1023
+pub patterns_fit : (bytes : List ℕ) (i : Input) → read_input bytes ≡ Some i → length i.patterns ≤ 1023
 patterns_fit bytes i e = omega (arith, patterns_few bytes i e, values_fit bytes i e)
 
 -- the text has at most 32,768 values
-pub text_fits : (bytes : List ℕ) (i : Input) → read_input bytes ≡ some i → length i.text ≤ 32768
+pub text_fits : (bytes : List ℕ) (i : Input) → read_input bytes ≡ Some i → length i.text ≤ 32768
 text_fits bytes i e =
     let t = taken bytes i e in
     omega (arith, (lines-Bounds (parts 10 bytes) i t.lines).short, weight-parts 10 bytes, t.few)
@@ -93,10 +56,11 @@ text_fits bytes i e =
 -- ---- the arrays that hold an input
 
 -- what a good answer says
-pub good_read : (bytes : List ℕ) (values₀ : List ℤ) (ends₀ : List ℕ) (text₀ values : List ℤ) (ends : List ℕ) (text : List ℤ) {parsed : Parsed} (k n : ℕ)
-    → parsed ≡ Parsed.Good k n → IsRead bytes values₀ ends₀ text₀ values ends text parsed
-    → (i : Input) × ((read_input bytes ≡ some i) × HasInput i values₀ ends₀ text₀ values ends text k n)
-good_read bytes values₀ ends₀ text₀ values ends text k n e r = subst (IsRead bytes values₀ ends₀ text₀ values ends text) e r
+pub good_read : (bytes : List ℕ) (values₀ : List ℤ) (ends₀ : List ℕ) (text₀ values : List ℤ) (ends : List ℕ) (text : List ℤ) {parsed : Option InputSize}
+    (size : InputSize)
+    → parsed ≡ Some size → IsRead bytes values₀ ends₀ text₀ values ends text parsed
+    → (i : Input) × ((read_input bytes ≡ Some i) × HasInput i values₀ ends₀ text₀ values ends text size.patterns size.text)
+good_read bytes values₀ ends₀ text₀ values ends text size e r = subst (IsRead bytes values₀ ends₀ text₀ values ends text) e r
 
 module _ {i : Input} {values₀ : List ℤ} {ends₀ : List ℕ} {text₀ values : List ℤ} {ends : List ℕ} {text : List ℤ} {k n : ℕ}
     (h : HasInput i values₀ ends₀ text₀ values ends text k n) where
@@ -111,8 +75,8 @@ module _ {i : Input} {values₀ : List ℤ} {ends₀ : List ℕ} {text₀ values
   front_text = ap (take n) h.all_text ∙ take_at i.text (drop n text₀) n (sym h.size)
 
   -- how many patterns, and values of the text, there can be
-  pub count_fits : (bytes : List ℕ) → read_input bytes ≡ some i → k ≤ 1023
+  pub count_fits : (bytes : List ℕ) → read_input bytes ≡ Some i → k ≤ 1023
   count_fits bytes e = omega (arith, h.patterns, patterns_fit bytes i e)
 
-  pub size_fits : (bytes : List ℕ) → read_input bytes ≡ some i → n ≤ 32768
+  pub size_fits : (bytes : List ℕ) → read_input bytes ≡ Some i → n ≤ 32768
   size_fits bytes e = omega (arith, h.size, text_fits bytes i e)

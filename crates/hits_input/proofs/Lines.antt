@@ -1,203 +1,162 @@
--- LINES: numbers are read from the front of a line, one part after the other, and put behind each
--- other.
-use Rattle.std.specs.Prelude.{◌≡◌, ◌∷◌, ◌++◌, ◌+◌, ◌-◌, ◌*◌, ◌≤◌, ◌<◌}
-use Rattle.lists.proofs.Prelude.{none-ne-some, ◌∙◌, ap, sym, refl, subst, true, false, cond, Option, none, some, some-injective, List, []}
-use Rattle.lists.proofs.Prelude.{map, append-nil, append_assoc, ℕ, suc, ℤ, pos, T, leb, length, take, drop, set}
-use Rattle.lists.proofs.Prelude.{length-append, length-set, take-append-drop, length-take-le, append_snoc, dec_lt, arith, le-leb, lt-leb}
+-- LINES: the numbers of a line are put behind each other, one part after the other; and what lines
+-- can hold.
+use Rattle.std.specs.Prelude.{◌≡◌, ◌&&◌, ◌∷◌, ◌++◌, ◌+◌, ◌*◌, ◌≤◌, ◌<◌}
+use Rattle.lists.proofs.Prelude.{none-some, ◌∙◌, ap, sym, refl, subst, Bool, true, false, Option, None, Some, same_Some, List, [], map}
+use Rattle.lists.proofs.Prelude.{append-nil, flatten, ℕ, suc, zero-le, ℤ, pos, eqb, length, get_or, drop, set, length-append, append_snoc, arith}
 use Rattle.lists.proofs.Parts.{length_snoc, store_behind}
-use Rattle.hits_input.specs.Input.{and_then, parts, read_number, gather, read_line}
-use Rattle.hits_input.specs.Steps.{up_to, is_there, stored, numbers, Put}
-use Rattle.hits_input.proofs.Cutting.{parts_from_lem, parts_last, weight, weight-parts}
+use Rattle.hits_input.specs.Input.{and_then, when, parts, read_number, gather, read_line, Input, read_lines}
+use Rattle.hits_input.specs.Steps.{IsPut, behind}
+use Rattle.hits_input.proofs.Cutting.{parts_some, weight, weight-parts}
 use Rattle.hits_input.proofs.Numbers.{number_not_empty}
 
--- ---- the parts of a line from a place on; none behind its end
+-- ---- the loop over the parts of a line
 
-abbrev pub parts_from : List ℕ → ℕ → List (List ℕ)
-parts_from line from = cond (leb from (length line)) (parts 32 (drop from line)) []
+-- the numbers of these parts
+abbrev pub numbers : List (List ℕ) → Option (List ℤ)
+numbers ps = gather (map read_number ps)
 
-abbrev pub rest_of : List ℕ → ℕ → Option (List ℤ)
-rest_of line from = gather (map read_number (parts_from line from))
-
-parts_step : (line : List ℕ) (from e : ℕ) → from ≤ length line → e ≡ from + up_to 32 (drop from line)
-    → parts_from line from ≡ take (e - from) (drop from line) ∷ parts_from line (e + 1)
-parts_step line from e h q = rw (le-leb from (length line) h) (go (dec_lt e (length line)))
-  where
-    go : Dec (e < length line) → parts 32 (drop from line) ≡ take (e - from) (drop from line) ∷ cond (leb (e + 1) (length line))
-        (parts 32 (drop (e + 1) line)) []
-    go (yes l) = rw (le-leb (e + 1) (length line) (omega arith)) (parts_from_lem 32 line from e h q l)
-    go (no f) = rw (lt-leb (e + 1) (length line) (omega arith)) (parts_last 32 line from e h q (omega arith))
-
-rest_step : (line : List ℕ) (from e : ℕ) → from ≤ length line → e ≡ from + up_to 32 (drop from line)
-    → rest_of line from ≡ and_then (read_number (take (e - from) (drop from line))) (λ a. and_then (rest_of line (e + 1)) (λ rest. some (a ∷ rest)))
-unfolding gather
-rest_step line from e h q = ap (λ (ps : List (List ℕ)). gather (map read_number ps)) (parts_step line from e h q)
-
--- ---- what a write makes of an array
-
--- nothing is written
-write_none : {A : Type 0} (n : ℕ) (d : List A) → d ≡ take n d ++ [] ++ drop n d
-write_none {A} n d = sym (ap (λ (l : List A). l ++ drop n d) (append-nil (take n d)) ∙ take-append-drop n d)
-
--- ---- the loop over the parts
-
--- of the numbers of the line, those before place `from` lie in the array from place `at` on, up to
--- place `to`
-pub record Filling (line : List ℕ) (at : ℕ) (before out : List ℤ) (from to : ℕ) : Type 0 where
-  -- the place is in the line, at its end or one behind it
-  pub within : from ≤ length line + 1
-  -- the array is as long as it was
-  pub sized : length out ≡ length before
-  -- and the numbers have room
-  pub room : to ≤ length out
-  -- the numbers that are read
+-- n numbers lie at the front of the array, and the line has these and those of the parts left
+pub record Filling (line : List ℕ) (left : List (List ℕ)) (before out : List ℤ) (n : ℕ) : Type 0 where
   pub done : List ℤ
-  -- they lie from place `at` on, up to place `to`, and the rest is as it was
-  pub place : to ≡ at + length done
-  pub lies : out ≡ take at before ++ done ++ drop to before
-  -- the line has these numbers and those of its rest
-  pub rest : numbers line ≡ and_then (rest_of line from) (λ xs. some (done ++ xs))
+  pub count : n ≡ length done
+  pub room : n ≤ length before
+  pub lies : out ≡ done ++ drop n before
+  pub rest : read_line line ≡ and_then (numbers left) (λ xs. Some (done ++ xs))
 
-pub fill_start : (line : List ℕ) (at : ℕ) (out : List ℤ) → at ≤ length out → Filling line at out out 0 at
-fill_start line at out h =
-    record {
-      within = omega arith;
-      sized = refl;
-      room = h;
-      done = [];
-      place = omega arith;
-      lies = write_none at out;
-      rest = rw (le-leb 0 (length line) (omega arith)) (keep (numbers line));
-    }
+pub fill_start : (line : List ℕ) (out : List ℤ) → (length line ≡ 0 → ⊥) → Filling line (parts 32 line) out out 0
+unfolding read_line
+fill_start [] out f = absurd (f refl)
+fill_start (b ∷ bs) out f =
+    record { done = []; count = refl; room = zero-le; lies = refl; rest = keep (numbers (parts 32 (b ∷ bs))) }
   where
-    keep : (o : Option (List ℤ)) → o ≡ and_then o (λ xs. some ([] ++ xs))
-    keep none = refl
-    keep (some xs) = refl
+    keep : (o : Option (List ℤ)) → o ≡ and_then o (λ xs. Some ([] ++ xs))
+    keep None = refl
+    keep (Some xs) = refl
 
--- a part that is no number
-pub fill_bad : {line : List ℕ} {at : ℕ} {before out : List ℤ} {from to e r : ℕ} {after : List ℤ} → Filling line at before out from to
-    → from ≤ length line → e ≡ from + up_to 32 (drop from line)
-    → is_there (read_number (take (e - from) (drop from line))) ≡ false → length before < r → Put (numbers line) at before after r
-fill_bad {line} {at} {before} {out} {from} {to} {e} {r} {after} w h q t l =
-    record { bad = λ k xs s. absurd (none-ne-some _ (sym no ∙ s)); good = λ k. absurd (let z : ⊥ = omega arith in z) }
-  where
-    go : (o : Option ℤ) → is_there o ≡ false
-        → and_then (and_then o (λ a. and_then (rest_of line (e + 1)) (λ rest. some (a ∷ rest)))) (λ xs. some (w.done ++ xs)) ≡ none
-    go none s = refl
-    go (some a) s = absurd (subst T s tt)
+module _ {line part : List ℕ} {left more : List (List ℕ)} {before out : List ℤ} {n : ℕ}
+    (w : Filling line left before out n) (e : left ≡ part ∷ more) where
+  -- the part is taken off those that are left
+  step : read_line line ≡ and_then (and_then (read_number part) (λ z. and_then (numbers more) (λ zs. Some (z ∷ zs)))) (λ xs. Some (w.done ++ xs))
+  unfolding gather
+  step = w.rest ∙ ap (λ (ps : List (List ℕ)). and_then (numbers ps) (λ xs. Some (w.done ++ xs))) e
 
-    no : numbers line ≡ none
-    no = w.rest ∙ (rw (rest_step line from e h q) (go (read_number (take (e - from) (drop from line))) t))
+  -- it is no number
+  pub fill_bad : (after : List ℤ) → None ≡ read_number part → IsPut (read_line line) before after None
+  fill_bad after q xs s = absurd (none-some _ (rw (sym q) refl ∙ sym step ∙ s))
 
--- a part left, and no room
-pub fill_full : {line : List ℕ} {at : ℕ} {before out : List ℤ} {from to e r : ℕ} → Filling line at before out from to → from ≤ length line
-    → e ≡ from + up_to 32 (drop from line)
-    → to ≡ length before → length before < r → Put (numbers line) at before out r
-fill_full {line} {at} {before} {out} {from} {to} {e} {r} w h q t l =
-    record {
-      bad = λ k xs s.
-          let g = go (read_number (take (e - from) (drop from line))) (rest_of line (e + 1)) xs (sym (w.rest ∙ (rw (rest_step line from e h q) refl)) ∙ s) in
-          omega (arith, g, w.place);
-      good = λ k. absurd (let z : ⊥ = omega arith in z);
-    }
-  where
-    go : (o : Option ℤ) (r : Option (List ℤ)) (xs : List ℤ)
-        → and_then (and_then o (λ a. and_then r (λ rest. some (a ∷ rest)))) (λ ys. some (w.done ++ ys)) ≡ some xs
-        → length w.done < length xs
-    go none r xs s = absurd (none-ne-some _ s)
-    go (some a) none xs s = absurd (none-ne-some _ s)
-    go (some a) (some ys) xs s =
-        let n : length w.done + suc (length ys) ≡ length xs = sym (length-append w.done (a ∷ ys)) ∙ ap length (some-injective _ _ s) in
-        omega arith
+  -- there is no room for it
+  pub fill_full : (after : List ℤ) → n ≡ length before → IsPut (read_line line) before after None
+  fill_full after q xs s = go (read_number part) (numbers more) (sym step ∙ s)
+    where
+      go : (o : Option ℤ) (r : Option (List ℤ))
+          → and_then (and_then o (λ z. and_then r (λ zs. Some (z ∷ zs)))) (λ ys. Some (w.done ++ ys)) ≡ Some xs
+          → length before < length xs
+      go None r t = absurd (none-some _ t)
+      go (Some z) None t = absurd (none-some _ t)
+      go (Some z) (Some zs) t =
+          let m : length w.done + suc (length zs) ≡ length xs = sym (length-append w.done (z ∷ zs)) ∙ ap length (same_Some _ _ t) in
+          omega (arith, w.count)
 
--- a part that is a number
-pub fill_more : {line : List ℕ} {at : ℕ} {before out : List ℤ} {from to e : ℕ} {after : List ℤ} → Filling line at before out from to
-    → from ≤ length line → e ≡ from + up_to 32 (drop from line) → e ≤ length line
-    → to < length out → is_there (read_number (take (e - from) (drop from line))) ≡ true → after
-    ≡ stored (read_number (take (e - from) (drop from line))) to out
-    → Filling line at before after (e + 1) (to + 1)
-fill_more {line} {at} {before} {out} {from} {to} {e} {after} w h q m l t s = go (read_number (take (e - from) (drop from line))) refl t s
-  where
-    more : (z : ℤ) (r : Option (List ℤ))
-        → and_then (and_then r (λ rest. some (z ∷ rest))) (λ xs. some (w.done ++ xs)) ≡ and_then r (λ xs. some ((w.done ++ (z ∷ [])) ++ xs))
-    more z none = refl
-    more z (some ys) = ap some (sym (append_snoc w.done z ys))
+  -- it is put behind the others
+  pub fill_more : (z : ℤ) → Some z ≡ read_number part → n < length out → length out ≡ length before → Filling line more before (set out n z) (n + 1)
+  fill_more z q h l =
+      record {
+        done = w.done ++ (z ∷ []);
+        count = omega (arith, length_snoc w.done z, w.count);
+        room = omega arith;
+        lies =
+            ap (λ (x : List ℤ). set x n z) w.lies
+            ∙ store_behind (pos 0) w.done before n z (sym w.count) (omega arith);
+        rest = step ∙ (rw (sym q) (put (numbers more)));
+      }
+    where
+      put : (r : Option (List ℤ))
+          → and_then (and_then r (λ zs. Some (z ∷ zs))) (λ xs. Some (w.done ++ xs)) ≡ and_then r (λ xs. Some ((w.done ++ (z ∷ [])) ++ xs))
+      put None = refl
+      put (Some ys) = ap Some (sym (append_snoc w.done z ys))
 
-    long : length (take at before ++ w.done) ≡ to
-    long =
-        length-append (take at before) w.done
-        ∙ ap (λ (k : ℕ). k + length w.done) (length-take-le at before (omega (arith, w.place, w.room, w.sized)))
-        ∙ sym w.place
-
-    go : (o : Option ℤ) → read_number (take (e - from) (drop from line)) ≡ o → is_there o ≡ true → after ≡ stored o to out
-        → Filling line at before after (e + 1) (to + 1)
-    go none p a b = absurd (subst T (sym a) tt)
-    go (some z) p a b =
-        record {
-          within = omega arith;
-          sized = ap length b ∙ length-set out to z ∙ w.sized;
-          room = rw (ap length b ∙ length-set out to z) (omega arith);
-          done = w.done ++ (z ∷ []);
-          place = omega (arith, length_snoc w.done z, w.place);
-          lies =
-              b
-              ∙ ap (λ (x : List ℤ). set x to z) w.lies
-              ∙ store_behind (pos 0) (take at before ++ w.done) before to z long (omega (arith, w.sized))
-              ∙ ap (λ (x : List ℤ). x ++ drop (to + 1) before) (append_assoc (take at before) w.done (z ∷ []));
-          rest = w.rest ∙ (rw (rest_step line from e h q, p) (more z (rest_of line (e + 1))));
-        }
-
--- no part left
-pub fill_end : {line : List ℕ} {at : ℕ} {before out : List ℤ} {from to : ℕ} → Filling line at before out from to → length line < from
-    → Put (numbers line) at before out to
+-- no part is left
+pub fill_end : {line : List ℕ} {left : List (List ℕ)} {before out : List ℤ} {n : ℕ} → Filling line left before out n → left ≡ []
+    → IsPut (read_line line) before out (Some n)
 unfolding gather
-fill_end {line} {at} {before} {out} {from} {to} w h =
-    let e : numbers line ≡ some w.done = w.rest ∙ (rw (lt-leb from (length line) h) (ap some (append-nil w.done))) in
-    record { bad = λ k. absurd (let z : ⊥ = omega (arith, w.room, w.sized) in z); good = λ k. (w.done, e, w.place, w.lies) }
+fill_end w e =
+    (w.done, w.rest ∙ (rw e (ap Some (append-nil w.done))), w.count, w.lies)
 
--- ---- lines
-
-pub line_empty : (line : List ℕ) (at : ℕ) (out : List ℤ) → at ≤ length out → length line ≡ 0 → Put (read_line line) at out out at
+-- the empty line
+pub line_empty : (line : List ℕ) (out : List ℤ) → length line ≡ 0 → IsPut (read_line line) out out (Some 0)
 unfolding read_line
-line_empty [] at out h e = record { bad = λ k. absurd (let z : ⊥ = omega arith in z); good = λ k. ([], refl, omega arith, write_none at out) }
-line_empty (b ∷ bs) at out h e = absurd (let z : ⊥ = omega arith in z)
-
-pub line_numbers : (line : List ℕ) → (length line ≡ 0 → ⊥) → read_line line ≡ numbers line
-unfolding read_line
-line_numbers [] f = absurd (f refl)
-line_numbers (b ∷ bs) f = refl
+line_empty [] out e = ([], refl, refl, refl)
+line_empty (b ∷ bs) out e = absurd (omega arith)
 
 -- ---- how many numbers a line can have
 
-gather_short : (ps : List (List ℕ)) (xs : List ℤ) → gather (map read_number ps) ≡ some xs → 2 * length xs ≤ weight ps
+gather_short : (ps : List (List ℕ)) (xs : List ℤ) → numbers ps ≡ Some xs → 2 * length xs ≤ weight ps
 unfolding gather weight
-gather_short [] xs e = let n : 0 ≡ length xs = ap length (some-injective _ _ e) in omega arith
-gather_short (p ∷ ps) xs e = go (read_number p) refl (gather (map read_number ps)) (gather_short ps) e
+gather_short [] xs e = let n : 0 ≡ length xs = ap length (same_Some _ _ e) in omega arith
+gather_short (p ∷ ps) xs e = go (read_number p) refl (numbers ps) (gather_short ps) e
   where
-    go : (o : Option ℤ) → read_number p ≡ o → (r : Option (List ℤ)) → ((ys : List ℤ) → r ≡ some ys → 2 * length ys ≤ weight ps)
-        → and_then o (λ a. and_then r (λ rest. some (a ∷ rest))) ≡ some xs → 2 * length xs ≤ suc (length p) + weight ps
-    go none q r ih s = absurd (none-ne-some _ s)
-    go (some a) q none ih s = absurd (none-ne-some _ s)
-    go (some a) q (some ys) ih s =
-        let n : suc (length ys) ≡ length xs = ap length (some-injective _ _ s) in
+    go : (o : Option ℤ) → read_number p ≡ o → (r : Option (List ℤ)) → ((ys : List ℤ) → r ≡ Some ys → 2 * length ys ≤ weight ps)
+        → and_then o (λ a. and_then r (λ rest. Some (a ∷ rest))) ≡ Some xs → 2 * length xs ≤ suc (length p) + weight ps
+    go None q r ih s = absurd (none-some _ s)
+    go (Some a) q None ih s = absurd (none-some _ s)
+    go (Some a) q (Some ys) ih s =
+        let n : suc (length ys) ≡ length xs = ap length (same_Some _ _ s) in
         omega (arith, ih ys refl, number_not_empty p a q)
 
-pub line_short : (line : List ℕ) (xs : List ℤ) → read_line line ≡ some xs → 2 * length xs ≤ suc (length line)
+pub line_short : (line : List ℕ) (xs : List ℤ) → read_line line ≡ Some xs → 2 * length xs ≤ suc (length line)
 unfolding read_line
-line_short [] xs e = let n : 0 ≡ length xs = ap length (some-injective _ _ e) in omega arith
+line_short [] xs e = let n : 0 ≡ length xs = ap length (same_Some _ _ e) in omega arith
 line_short (b ∷ bs) xs e = omega (arith, gather_short (parts 32 (b ∷ bs)) xs e, weight-parts 32 (b ∷ bs))
 
-gather-some : (ps : List (List ℕ)) (xs : List ℤ) → 1 ≤ length ps → gather (map read_number ps) ≡ some xs → 1 ≤ length xs
+gather-some : (ps : List (List ℕ)) (xs : List ℤ) → 1 ≤ length ps → numbers ps ≡ Some xs → 1 ≤ length xs
 unfolding gather
-gather-some [] xs h e = absurd (let z : ⊥ = omega arith in z)
-gather-some (p ∷ ps) xs h e = go (read_number p) (gather (map read_number ps)) e
+gather-some [] xs h e = absurd (omega arith)
+gather-some (p ∷ ps) xs h e = go (read_number p) (numbers ps) e
   where
-    go : (o : Option ℤ) (r : Option (List ℤ)) → and_then o (λ a. and_then r (λ rest. some (a ∷ rest))) ≡ some xs → 1 ≤ length xs
-    go none r s = absurd (none-ne-some _ s)
-    go (some a) none s = absurd (none-ne-some _ s)
-    go (some a) (some ys) s = let n : suc (length ys) ≡ length xs = ap length (some-injective _ _ s) in omega arith
+    go : (o : Option ℤ) (r : Option (List ℤ)) → and_then o (λ a. and_then r (λ rest. Some (a ∷ rest))) ≡ Some xs → 1 ≤ length xs
+    go None r s = absurd (none-some _ s)
+    go (Some a) None s = absurd (none-some _ s)
+    go (Some a) (Some ys) s = let n : suc (length ys) ≡ length xs = ap length (same_Some _ _ s) in omega arith
 
 -- a line that is not empty has a number
-pub line_some : (line : List ℕ) (xs : List ℤ) → 1 ≤ length line → read_line line ≡ some xs → 1 ≤ length xs
+pub line_some : (line : List ℕ) (xs : List ℤ) → 1 ≤ length line → read_line line ≡ Some xs → 1 ≤ length xs
 unfolding read_line
-line_some [] xs h e = absurd (let z : ⊥ = omega arith in z)
-line_some (b ∷ bs) xs h e = gather-some (parts 32 (b ∷ bs)) xs (Rattle.hits_input.proofs.Cutting.parts_some 32 (b ∷ bs)) e
+line_some [] xs h e = absurd (omega arith)
+line_some (b ∷ bs) xs h e = gather-some (parts 32 (b ∷ bs)) xs (parts_some 32 (b ∷ bs)) e
+
+-- ---- what lines can hold
+
+-- an input that was read from so many bytes
+pub record Bounds (size : ℕ) (i : Input) : Type 0 where
+  -- each pattern has a value
+  pub few : length i.patterns ≤ length (flatten i.patterns)
+  -- each value of the text takes two of the bytes
+  pub short : 2 * length i.text ≤ size
+
+pub lines-Bounds : (ls : List (List ℕ)) (i : Input) → read_lines ls ≡ Some i → Bounds (weight ls) i
+unfolding read_lines weight flatten
+lines-Bounds [] i e = absurd (none-some _ e)
+lines-Bounds ([] ∷ ls) i e = go (eqb (length ls) 2 && eqb (length (get_or ls 1 [])) 0) (read_line (get_or ls 0 [])) refl e
+  where
+    first : (ls : List (List ℕ)) → suc (length (get_or ls 0 [])) ≤ 1 + weight ls
+    first [] = omega arith
+    first (l ∷ ls) = omega arith
+
+    go : (t : Bool) (o : Option (List ℤ)) → read_line (get_or ls 0 []) ≡ o
+        → when t (and_then {B = Input} o (λ xs. Some (record { patterns = []; text = xs }))) ≡ Some i → Bounds (1 + weight ls) i
+    go false o q s = absurd (none-some _ s)
+    go true None q s = absurd (none-some _ s)
+    go true (Some xs) q s =
+        subst (Bounds (1 + weight ls)) (same_Some _ _ s)
+        (record { few = zero-le; short = omega (arith, line_short (get_or ls 0 []) xs q, first ls) })
+lines-Bounds ((b ∷ bs) ∷ ls) i e = go (read_line (b ∷ bs)) refl (read_lines ls) (lines-Bounds ls) e
+  where
+    go : (o : Option (List ℤ)) → read_line (b ∷ bs) ≡ o → (r : Option Input) → ((j : Input) → r ≡ Some j → Bounds (weight ls) j)
+        → and_then o (λ p. behind (p ∷ []) r) ≡ Some i → Bounds (suc (suc (length bs)) + weight ls) i
+    go None q r ih s = absurd (none-some _ s)
+    go (Some p) q None ih s = absurd (none-some _ s)
+    go (Some p) q (Some j) ih s =
+        let w = ih j refl in
+        let n : length (p ++ flatten j.patterns) ≡ length p + length (flatten j.patterns) = length-append p (flatten j.patterns) in
+        subst (Bounds (suc (suc (length bs)) + weight ls)) (same_Some _ _ s)
+        (record { few = omega (arith, n, w.few, line_some (b ∷ bs) p (omega arith) q); short = omega (arith, w.short) })

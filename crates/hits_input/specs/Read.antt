@@ -1,8 +1,8 @@
 -- What reading leaves in the lent arrays: the patterns' values one after the other, where each
 -- pattern ends among them, and the text; behind each of these, what the array held before.
 use Rattle.std.specs.Prelude.{◌≡◌, ◌∷◌, ◌++◌, ◌+◌}
-use Rattle.lists.specs.Prelude.{none, some, List, [], flatten, ℕ, ℤ, length, drop}
-use Rattle.hits_input.specs.declared.Parsed.{Parsed}
+use Rattle.lists.specs.Prelude.{Option, None, Some, List, [], flatten, ℕ, ℤ, length, drop}
+use Rattle.hits_input.specs.declared.InputSize.{InputSize}
 use Rattle.hits_input.specs.Input.{Input, read_input}
 
 -- where each pattern ends, counted from n
@@ -22,7 +22,7 @@ pub record HasInput (i : Input) (values₀ : List ℤ) (ends₀ : List ℕ) (tex
 
 -- the bytes, what the arrays held before, what they hold now, and the answer; where there is no
 -- input, the arrays are left free
-abbrev pub IsRead : List ℕ → List ℤ → List ℕ → List ℤ → List ℤ → List ℕ → List ℤ → Parsed → Type 0
-IsRead bytes values₀ ends₀ text₀ values ends text Parsed.Bad = read_input bytes ≡ none
-IsRead bytes values₀ ends₀ text₀ values ends text (Parsed.Good k n) =
-    (i : Input) × ((read_input bytes ≡ some i) × HasInput i values₀ ends₀ text₀ values ends text k n)
+abbrev pub IsRead : List ℕ → List ℤ → List ℕ → List ℤ → List ℤ → List ℕ → List ℤ → Option InputSize → Type 0
+IsRead bytes values₀ ends₀ text₀ values ends text None = read_input bytes ≡ None
+IsRead bytes values₀ ends₀ text₀ values ends text (Some size) =
+    (i : Input) × ((read_input bytes ≡ Some i) × HasInput i values₀ ends₀ text₀ values ends text size.patterns size.text)

@@ -1,229 +1,184 @@
-// The input of the program `hits`, read into lent arrays. Document 01: Program `hits`.
+// The input of the program `hits`, read into lent arrays.
 #![tactic(auto)]
 
-ghost use Rattle.std.specs.Prelude.{◌≡◌, ◌+◌, ◌≤◌, ◌<◌};
-ghost use Rattle.lists.specs.Prelude.{negsuc, length, get_or, drop};
-ghost use Rattle.hits_input.specs.Input.{read_number, read_line};
+ghost use Rattle.std.specs.Prelude.{◌≡◌, ◌≤◌, ◌<◌, IfSome};
+ghost use Rattle.std.specs.Iterator.{YieldsFirstRef, item_count};
+ghost use Rattle.lists.specs.Prelude.{Some};
+ghost use Rattle.hits_input.specs.Input.{when, decimal, are_digits, negative, parts, read_number, read_line};
 ghost use Rattle.hits_input.specs.Read.{IsRead};
-ghost use Rattle.hits_input.specs.Steps.{up_to, next, numbers, size_of, is_there, stored, Put, PatternsRead, TextRead};
+ghost use Rattle.hits_input.specs.Steps.{parts_left, IsPut, PatternsRead, text_line};
 
-// What the bytes hold: so many patterns, and a text of so many values; or no input that the program
-// takes.
+/// How many patterns an input has, and how many values its text.
 #[derive(Clone, Copy)]
-pub enum Parsed {
-    Good(usize, usize),
-    Bad,
+pub struct InputSize {
+    pub patterns: usize,
+    pub text: usize,
 }
 
-// How many pattern lines there are, and where the text's line begins; behind the bytes where there
-// is no such input.
-#[derive(Clone, Copy)]
-struct Patterns {
-    count: usize,
-    from: usize,
+/// The parts of bytes that are cut at each separator; one more than there are separators.
+#[derive(Drop)]
+struct Parts<'a> {
+    rest: Option<&'a [u8]>,
+    separator: u8,
 }
 
-// The place of the next separator, or the end.
-fn end_of(bytes: &[u8], from: usize, sep: u8) -> usize
-    requires { from ≤ length bytes.now }
-    ensures value { result ≡ from + up_to sep (drop from bytes.now) }
-    ensures lower_bound { (from ≤ result) × (result ≤ length bytes.now) }
-{
-    let n = bytes.len();
-    let mut i = from;
-    while i < n {
-        if bytes[i] == sep {
-            return i;
+impl<'a> Parts<'a> {
+    fn new(bytes: &'a [u8], separator: u8) -> Parts<'a>
+        ensures { parts_left result ≡ parts separator bytes.now }
+    {
+        Parts {
+            rest: Some(bytes),
+            separator,
         }
-        i += 1;
     }
-    n
 }
 
-// A size and one digit more; a size that is above all of 32 bits stays.
-fn shifted(size: u64, digit: u8) -> u64
-    requires { (size < 42949672960) × (48 ≤ digit) × (digit ≤ 57) }
-    ensures { result ≡ next size digit }
-{
-    if size >= 4294967296 {
-        return size;
-    }
-    size * 10 + (digit - 48) as u64
-}
+impl<'a> Iterator for Parts<'a> {
+    type Item = &'a [u8];
 
-// The size that the digits from a place on tell; above all of 32 bits where it is, and where there
-// are not only digits.
-fn size_of(part: &[u8], from: usize) -> u64
-    requires { from ≤ length part.now }
-    ensures { result ≡ size_of (drop from part.now) }
-{
-    let n = part.len();
-    if from == n {
-        return 4294967296;
-    }
-    let mut size: u64 = 0;
-    let mut i = from;
-    while i < n {
-        let digit = part[i];
-        if digit < 48 {
-            return 4294967296;
+    ghost next_gives = { YieldsFirstRef parts_left };
+
+    ghost remaining = { item_count parts_left };
+
+    fn next(&mut self) -> Option<&'a [u8]> {
+        let rest = self.rest?;
+        let separator = self.separator;
+        match rest.iter().position(|b| *b == separator) {
+            Some(end) => {
+                self.rest = Some(&rest[end + 1..]);
+                Some(&rest[..end])
+            }
+            None => {
+                self.rest = None;
+                Some(rest)
+            }
         }
-        if digit > 57 {
-            return 4294967296;
+    }
+}
+
+/// The number that the digits tell, of which there must be one; none above the limit.
+#[tactic(auto, using(crate::proofs::Numbers::digits_none, crate::proofs::Numbers::digits_some, crate::proofs::Numbers::digit_more))]
+fn read_size(digits: &[u8], limit: u64) -> Option<u64>
+    requires { limit < 4294967296 }
+    ensures value { result ≡ when (are_digits limit digits.now) (Some (decimal 0 digits.now)) }
+    ensures within { IfSome result (λ size. size ≤ limit) }
+{
+    if digits.is_empty() {
+        return None;
+    }
+    let mut size = 0;
+    for digit in digits {
+        if !digit.is_ascii_digit() {
+            return None;
         }
-        size = shifted(size, digit);
-        i += 1;
-    }
-    size
-}
-
-// The number under zero by one more than k.
-fn below_zero(k: u64) -> i32
-    requires { k < 2147483648 }
-    ensures { result ≡ negsuc k }
-{
-    -1 - (k as i32)
-}
-
-// The number of a part that begins with a minus sign, put at a place; is there one.
-fn put_negative(part: &[u8], out: &mut [i32], at: usize) -> bool
-    requires { (0 < length part.now) × (get_or part.now 0 0 ≡ 45) × (at < length out.old) }
-    ensures value { result ≡ is_there (read_number part.now) }
-    ensures out_after { out.new ≡ stored (read_number part.now) at out.old }
-{
-    let size = size_of(part, 1);
-    if size > 2147483648 {
-        return false;
-    }
-    if size == 0 {
-        out[at] = 0;
-    } else {
-        out[at] = below_zero(size - 1);
-    }
-    true
-}
-
-// The number of a part, put at a place; is there one.
-fn put_number(part: &[u8], out: &mut [i32], at: usize) -> bool
-    requires { at < length out.old }
-    ensures value { result ≡ is_there (read_number part.now) }
-    ensures out_after { out.new ≡ stored (read_number part.now) at out.old }
-{
-    if part.len() == 0 {
-        return false;
-    }
-    if part[0] == 45 {
-        return put_negative(part, out, at);
-    }
-    let size = size_of(part, 0);
-    if size > 2147483647 {
-        return false;
-    }
-    out[at] = size as i32;
-    true
-}
-
-// Numbers with one space between, put from a place on; the place behind them, or one behind the
-// array where there is no room or no such numbers.
-fn read_numbers(line: &[u8], out: &mut [i32], at: usize) -> usize
-    requires { (at ≤ length out.old) × (length line.now ≤ 65536) × (length out.old ≤ 65536) }
-    ensures { Put (numbers line.now) at out.old out.new result }
-{
-    let n = line.len();
-    let room = out.len();
-    let mut from = 0;
-    let mut to = at;
-    while from <= n {
-        let end = end_of(line, from, 32);
-        if to == room {
-            return room + 1;
+        size = size * 10 + (*digit - b'0') as u64;
+        if size > limit {
+            return None;
         }
-        if !put_number(&line[from..end], out, to) {
-            return room + 1;
+    }
+    Some(size)
+}
+
+/// The number that is so much below zero.
+fn negated(size: u64) -> i32
+    requires { size ≤ 2147483648 }
+    ensures { result ≡ negative size }
+{
+    -(size as i64) as i32
+}
+
+/// A number: digits with at most one minus sign before them, in the signed 32-bit range.
+#[tactic(auto, using(crate::proofs::Numbers::number_none, crate::proofs::Numbers::minus_none, crate::proofs::Numbers::minus_some))]
+fn read_number(part: &[u8]) -> Option<i32>
+    ensures { result ≡ read_number part.now }
+{
+    if part.is_empty() {
+        return None;
+    }
+    if part[0] == b'-' {
+        let size = read_size(&part[1..], 2147483648)?;
+        return Some(negated(size));
+    }
+    let size = read_size(part, 2147483647)?;
+    Some(size as i32)
+}
+
+/// The numbers of a line, with one space between, to the front of the array; how many, if they are
+/// numbers and have room.
+#[tactic(auto, using(crate::proofs::Lines::line_empty, crate::proofs::Lines::fill_start, crate::proofs::Lines::fill_more))]
+fn read_line(line: &[u8], out: &mut [i32]) -> Option<usize>
+    ensures { IsPut (read_line line.now) out.old out.new result }
+{
+    if line.is_empty() {
+        return Some(0);
+    }
+    let mut count = 0;
+    for part in Parts::new(line, b' ') {
+        let number = read_number(part)?;
+        if count == out.len() {
+            return None;
         }
-        to += 1;
-        from = end + 1;
+        out[count] = number;
+        count += 1;
     }
-    to
+    Some(count)
 }
 
-// A line's numbers, put from a place on; the place behind them, or one behind the array where there
-// is no room or the line is bad.
-fn read_line(line: &[u8], out: &mut [i32], at: usize) -> usize
-    requires { (at ≤ length out.old) × (length line.now ≤ 65536) × (length out.old ≤ 65536) }
-    ensures { Put (read_line line.now) at out.old out.new result }
+/// The pattern lines up to the empty line; how many, if they are good and have room.
+/// Arrays side by side: values and ends have one size and nothing else in common.
+fn read_patterns(
+    lines: &mut Parts,
+    values: &mut [i32; 1023],
+    ends: &mut [u32; 1023],
+) -> Option<usize>
+    ensures { PatternsRead (parts_left lines.old) values.old ends.old
+        values.new ends.new (parts_left lines.new) result }
 {
-    if line.len() == 0 {
-        return at;
-    }
-    read_numbers(line, out, at)
-}
-
-// The pattern lines up to the empty line.
-fn read_patterns(bytes: &[u8], values: &mut [i32], ends: &mut [u32]) -> Patterns
-    requires { (length bytes.now ≤ 65536) × (length values.old ≡ 1023) × (length ends.old ≡ 1023) }
-    ensures { PatternsRead bytes.now values.old ends.old
-        values.new ends.new result.count result.from }
-{
-    let n = bytes.len();
-    let mut start = 0;
     let mut count = 0;
     let mut filled = 0;
-    loop {
-        let end = end_of(bytes, start, 10);
-        if end == n {
-            return Patterns { count, from: n + 1 };
+    while let Some(line) = lines.next() {
+        if line.is_empty() {
+            return Some(count);
         }
-        if end == start {
-            return Patterns {
-                count,
-                from: end + 1,
-            };
-        }
-        filled = read_line(&bytes[start..end], values, filled);
-        if filled > 1023 {
-            return Patterns { count, from: n + 1 };
-        }
+        filled += read_line(line, &mut values[filled..])?;
         ends[count] = filled as u32;
         count += 1;
-        start = end + 1;
     }
+    None
 }
 
-// The text's line, which is the last and ends; how many values it has, more than the array holds
-// where it is bad.
-fn read_text(bytes: &[u8], from: usize, text: &mut [i32]) -> usize
-    requires { (from ≤ length bytes.now) × (length bytes.now ≤ 65536) × (length text.old ≡ 32768) }
-    ensures { TextRead (drop from bytes.now) text.old text.new result }
+/// The text, whose line is the last and ends; how many values it has, if it is good and has room.
+fn read_text(lines: &mut Parts, text: &mut [i32; 32768]) -> Option<usize>
+    ensures { IsPut (text_line (parts_left lines.old)) text.old text.new result }
 {
-    let end = end_of(bytes, from, 10);
-    if end + 1 != bytes.len() {
-        return 32769;
+    let line = lines.next()?;
+    let end = lines.next()?;
+    if !end.is_empty() || lines.next().is_some() {
+        return None;
     }
-    read_line(&bytes[from..end], text, 0)
+    read_line(line, text)
 }
 
-// The input that the bytes hold, read into the arrays, which keep what they held behind it. Where
-// there is none, the arrays are left free.
+/// The input that the bytes hold, read into the arrays, which keep what they held behind it. Where
+/// there is none, the arrays are left free.
+/// Arrays side by side: values and ends have one size and nothing else in common.
 pub fn read_input(
     bytes: &[u8],
     values: &mut [i32; 1023],
     ends: &mut [u32; 1023],
     text: &mut [i32; 32768],
-) -> Parsed
+) -> Option<InputSize>
     ensures { IsRead bytes.now values.old ends.old text.old
         values.new ends.new text.new result }
 {
     if bytes.len() > 65536 {
-        return Parsed::Bad;
+        return None;
     }
-    let p = read_patterns(bytes, values, ends);
-    if p.from > bytes.len() {
-        return Parsed::Bad;
-    }
-    let n = read_text(bytes, p.from, text);
-    if n > 32768 {
-        return Parsed::Bad;
-    }
-    Parsed::Good(p.count, n)
+    let mut lines = Parts::new(bytes, b'\n');
+    let patterns = read_patterns(&mut lines, values, ends)?;
+    let size = read_text(&mut lines, text)?;
+    Some(InputSize {
+        patterns,
+        text: size,
+    })
 }

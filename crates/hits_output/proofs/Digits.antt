@@ -1,8 +1,8 @@
 -- Laws of decimal digits: how many a number has, and how they are written from the last one on.
-use Rattle.std.specs.Prelude.{◌≡◌, ◌∷◌, ◌++◌, ◌+◌, ◌-◌, ◌/◌, ◌%◌, ◌^◌, ◌≤◌, ◌<◌}
+use Rattle.std.specs.Prelude.{◌≡◌, ◌∷◌, ◌++◌, ◌+◌, ◌-◌, ◌*◌, ◌/◌, ◌%◌, ◌^◌, ◌≤◌, ◌<◌}
 use Rattle.lists.proofs.Parts.{drop-set, length_snoc}
 use Rattle.lists.proofs.Prelude.{◌∙◌, ap, sym, refl, Bool, true, false, List, [], ℕ, zero, suc, ltb, length}
-use Rattle.lists.proofs.Prelude.{drop, set, append_snoc, pow-suc, sub-one, arith, lt-ltb, le-ltb, ltb-false, ltb-true}
+use Rattle.lists.proofs.Prelude.{drop, set, append_snoc, pow-suc, one-le-pow, sub-one, arith, lt-ltb, le-ltb, ltb-false, ltb-true}
 use Rattle.hits_output.specs.Output.{digits_within, digits}
 
 -- the last k digits of v, zeros before them where v has fewer
@@ -48,34 +48,22 @@ digits_last (suc n) v = go (ltb v 10) refl (digits_last n (v / 10))
 
 -- ---- how many digits
 
--- of a number with that many digits in all, n are counted, the first digit of the rest among them
-pub record Counted (total n rest : ℕ) : Type 0 where
-  pub more : ℕ
-  pub within : more + n ≡ 20
-  pub small : rest < 10 ^ suc more
-  pub count : total + 1 ≡ n + length (digits_within more rest)
+pub digits_zero : length (digits 0) ≡ 1
+digits_zero = ap length (digits_short 19 0 (omega arith))
 
-pub Counted-start : (v : ℕ) → v < 2 ^ 64 → Counted (length (digits v)) 1 v
-Counted-start v h = record { more = 19; within = omega arith; small = omega arith; count = omega arith }
+-- as many as the power of ten that is next above
+length-digits_within : (n v k : ℕ) → k ≤ n → 10 ^ k ≤ v → v < 10 * 10 ^ k → length (digits_within n v) ≡ suc k
+length-digits_within n v zero h l u = ap length (digits_short n v (let p : 10 ^ 0 ≡ 1 = refl in omega (arith, u, p)))
+length-digits_within zero v (suc k) h l u = absurd (omega arith)
+length-digits_within (suc n) v (suc k) h l u =
+    let p = pow-suc 10 k in
+    let q : 1 ≤ 10 ^ k = one-le-pow k 10 (omega arith) in
+    ap length (digits_long n v (omega (arith, p)))
+    ∙ length_snoc (digits_within n (v / 10)) (48 + v % 10)
+    ∙ ap suc (length-digits_within n (v / 10) k (omega arith) (omega (arith, p)) (omega (arith, p)))
 
-pub Counted-more : (total n rest : ℕ) → Counted total n rest → 10 ≤ rest → Counted total (n + 1) (rest / 10)
-Counted-more total n rest c h = go c.more c.within c.small c.count
-  where
-    go : (f : ℕ) → f + n ≡ 20 → rest < 10 ^ suc f → total + 1 ≡ n + length (digits_within f rest) → Counted total (n + 1) (rest / 10)
-    go zero w s e = absurd (let p : 10 ^ 1 ≡ 10 = refl in let x : ⊥ = omega (arith, p) in x)
-    go (suc f) w s e =
-        let p = pow-suc 10 (suc f) in
-        let l : length (digits_within (suc f) rest) ≡ suc (length (digits_within f (rest / 10))) =
-        ap length (digits_long f rest h) ∙ length_snoc (digits_within f (rest / 10)) (48 + rest % 10) in
-        record { more = f; within = omega arith; small = omega (arith, p); count = omega (arith, l, e) }
-
-pub Counted-few : (total n rest : ℕ) → Counted total n rest → n ≤ 20
-Counted-few total n rest c = omega (arith, c.within)
-
-pub Counted-end : (total n rest : ℕ) → Counted total n rest → rest < 10 → (n ≡ total) × (n ≤ 20)
-Counted-end total n rest c h =
-    let l : length (digits_within c.more rest) ≡ 1 = ap length (digits_short c.more rest h) in
-    (omega (arith, l, c.count), omega (arith, c.within))
+pub digits_length : (v k : ℕ) → k < 20 → 10 ^ k ≤ v → v < 10 * 10 ^ k → length (digits v) ≡ k + 1
+digits_length v k h l u = length-digits_within 19 v k (omega arith) l u ∙ (omega arith)
 
 -- ---- written from the last one on
 

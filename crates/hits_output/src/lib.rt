@@ -1,5 +1,4 @@
-// The text that the program `hits` prints for hits, written into a lent buffer. Document 01:
-// Program `hits`.
+// The text that the program `hits` prints, written into a lent buffer.
 #![tactic(auto)]
 
 ghost use Rattle.std.specs.Prelude.{◌≡◌, ◌∷◌, ◌++◌, ◌+◌, ◌*◌, ◌≤◌, ◌<◌};
@@ -9,19 +8,18 @@ ghost use Rattle.matching.specs.HitsIn.{hit_in, hits_in};
 ghost use Rattle.hits_output.specs.Output.{digits, line, hit_line, hit_lines, header, closing_line, refused_line, bad_line};
 
 // How many decimal digits v has.
+#[tactic(auto, using(crate::proofs::Digits::digits_zero, crate::proofs::Digits::digits_length))]
 fn count_digits(v: u64) -> usize
     ensures { (result ≡ length (digits v)) × (result ≤ 20) }
 {
-    let mut rest = v;
-    let mut n = 1;
-    while rest >= 10 {
-        rest /= 10;
-        n += 1;
+    match v.checked_ilog10() {
+        Some(k) => k as usize + 1,
+        None => 1,
     }
-    n
 }
 
 // The decimal digits of v to the front of the buffer; how many they are.
+#[tactic(auto, using(crate::proofs::Digits::spell_start, crate::proofs::Digits::spell_more))]
 pub fn write_number(v: u64, out: &mut [u8]) -> usize
     requires { 20 ≤ length out.old }
     ensures value { (result ≡ length (digits v)) × (result ≤ 20) }
@@ -29,10 +27,8 @@ pub fn write_number(v: u64, out: &mut [u8]) -> usize
 {
     let n = count_digits(v);
     let mut rest = v;
-    let mut i = n;
-    while i > 0 {
-        i -= 1;
-        out[i] = 48 + (rest % 10) as u8;
+    for i in (0..n).rev() {
+        out[i] = b'0' + (rest % 10) as u8;
         rest /= 10;
     }
     n
@@ -56,12 +52,13 @@ fn write_line(place: u64, number: u64, size: u64, out: &mut [u8]) -> usize
     ensures value { (result ≡ length (line place number size)) × (result ≤ 63) }
     ensures out_after { out.new ≡ line place number size ++ drop (length (line place number size)) out.old }
 {
-    let a = write_field(place, 32, out);
-    let b = a + write_field(number, 32, &mut out[a..]);
-    b + write_field(size, 10, &mut out[b..])
+    let a = write_field(place, b' ', out);
+    let b = a + write_field(number, b' ', &mut out[a..]);
+    b + write_field(size, b'\n', &mut out[b..])
 }
 
 // The line of hit i to the front of the buffer; how many bytes it has.
+#[tactic(auto, unfolding(crate::specs::Output::hit_line))]
 fn write_hit(set: &[u32], hits: &[u32], i: usize, out: &mut [u8]) -> usize
     requires set { IsSet set.now }
     requires i_in_bounds { (2 * i + 1 < length hits.now) × (get_or hits.now (2 * i + 1) 0 < length (patterns_of set.now)) }
@@ -88,10 +85,8 @@ pub fn write_lines(set: &[u32], hits: &[u32], count: usize, out: &mut [u8]) -> u
         ++ drop (length (hit_lines (patterns_of set.now) (hits_in hits.now count))) out.old }
 {
     let mut at = 0;
-    let mut i = 0;
-    while i < count {
+    for i in 0..count {
         at += write_hit(set, hits, i, &mut out[at..]);
-        i += 1;
     }
     at
 }
@@ -105,12 +100,21 @@ fn write_bytes(bytes: &[u8], out: &mut [u8]) -> usize
     ensures out_after { out.new ≡ bytes.now ++ drop (length bytes.now) out.old }
 {
     let n = bytes.len();
-    let mut i = 0;
-    while i < n {
-        out[i] = bytes[i];
-        i += 1;
-    }
+    out[..n].copy_from_slice(bytes);
     n
+}
+
+// A word and the number behind it, on a line of their own, to the front of the buffer; how many
+// bytes it has.
+fn write_word(word: &[u8], number: u64, out: &mut [u8]) -> usize
+    requires { length word.now + 21 ≤ length out.old }
+    ensures value { (result ≡ length (word.now ++ (digits number ++ (10 ∷ [])))) × (result ≤ length word.now + 21) }
+    ensures out_after { out.new
+        ≡ (word.now ++ (digits number ++ (10 ∷ [])))
+        ++ drop (length (word.now ++ (digits number ++ (10 ∷ [])))) out.old }
+{
+    let n = write_bytes(word, out);
+    n + write_field(number, b'\n', &mut out[n..])
 }
 
 // The line over the hits to the front of the buffer; how many bytes it has.
@@ -132,21 +136,21 @@ pub fn write_bad(out: &mut [u8]) -> usize
 }
 
 // The line of a refusal to the front of the buffer; how many bytes it has.
+#[tactic(auto, unfolding(crate::specs::Output::refused_line))]
 pub fn write_refused(number: u64, out: &mut [u8]) -> usize
     requires { 63 ≤ length out.old }
     ensures value { (result ≡ length (refused_line number)) × (result ≤ 63) }
     ensures out_after { out.new ≡ refused_line number ++ drop (length (refused_line number)) out.old }
 {
-    let a = write_bytes(b"refused ", out);
-    a + write_field(number, 10, &mut out[a..])
+    write_word(b"refused ", number, out)
 }
 
 // The line of the attempts to the front of the buffer; how many bytes it has.
+#[tactic(auto, unfolding(crate::specs::Output::closing_line))]
 pub fn write_closing(attempts: u64, out: &mut [u8]) -> usize
     requires { 63 ≤ length out.old }
     ensures value { (result ≡ length (closing_line attempts)) × (result ≤ 63) }
     ensures out_after { out.new ≡ closing_line attempts ++ drop (length (closing_line attempts)) out.old }
 {
-    let a = write_bytes(b"trials ", out);
-    a + write_field(attempts, 10, &mut out[a..])
+    write_word(b"trials ", attempts, out)
 }

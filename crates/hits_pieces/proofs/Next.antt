@@ -1,17 +1,19 @@
 -- One call of the program leaves the next piece: its refusal, or the lines of its hits.
 use Rattle.lists.proofs.Prelude.{◌∙◌, ap, sym, refl, subst, ap₂, Bool, true, false, not, List, [], ℕ, zero, suc, min}
-use Rattle.std.specs.Prelude.{◌≡◌, ◌||◌, ◌∷◌, ◌++◌, ◌+◌, ◌-◌, ◌*◌, ◌%◌, ◌^◌, ◌≤◌, ◌<◌}
+use Rattle.std.specs.Prelude.{Ok, Err, ◌≡◌, ◌||◌, ◌∷◌, ◌++◌, ◌+◌, ◌-◌, ◌*◌, ◌%◌, ◌^◌, ◌≤◌, ◌<◌}
 use Rattle.lists.proofs.Prelude.{ℤ, pos, eqb, ltb, le-ltb, length, length-append, length-replicate, length-take, length-drop, take, take_all, drop}
 use Rattle.lists.proofs.Prelude.{drop_of_length-le}
 use Rattle.lists.proofs.Prelude.{replicate, dec_lt, arith, inl, inr}
-use Rattle.answers.specs.declared.SearchState.{SearchState}
+use Rattle.answers.specs.declared.{SearchState.{SearchState}, Refusal.{Refusal}}
+use Rattle.answers.specs.Told.{number}
+use Rattle.answers.proofs.Refusals.{number_positive}
 use Rattle.pattern_set.specs.PatternSet.{patterns_of}
 use Rattle.search_model.specs.Search.{Position, position_of, good_state, Called, step, call, state_after}
 use Rattle.search_model.proofs.Feed.{EndedOrFull, feed_rule}
 use Rattle.entries.specs.Entries.{first_met, unless, search_conditions, is_short, stream_conditions}
 use Rattle.hits_output.specs.Output.{hit_lines, closing_line, refused_line}
-use Rattle.hits_calls.specs.declared.calls.Step.{Step}
-use Rattle.hits_calls.specs.Called.{hit_front, summed, summary, IsCalled}
+use Rattle.hits_calls.specs.declared.calls.{Step.{Step}, Batch.{Batch}}
+use Rattle.hits_calls.specs.Called.{hit_front, summed, summary, told_batch, bytes_of, IsCalled}
 use Rattle.hits_printed.specs.Pieces as pieces
 use Rattle.hits_printed.specs.Pieces.{next_piece}
 use Rattle.hits_pieces.specs.declared.search.Progress.{Progress}
@@ -83,29 +85,29 @@ module _ (ws automaton : List ℕ) (text : List ℤ) (p : Progress) (hits : List
 
   -- what the call tells of its refusal
   told_refusal : {hits_after out_after : List ℕ} {left : List ℤ} {s : Step} → IsCalled ws automaton p.state xs hits rises out hits_after left out_after s
-      → s.refused ≡ refusal
+      → (told_batch s.answer).0 ≡ refusal
   told_refusal c = ap (λ (t : ℕ × (Bool × ℕ × ℕ)). t.0) c.answer
 
   -- the call was refused
-  pub piece_refused : {hits_after out_after last : List ℕ} {left : List ℤ} {s : Step} (n : ℕ)
-      → IsCalled ws automaton p.state xs hits rises out hits_after left out_after s → 0 < s.refused
-      → n ≡ length (refused_line s.refused) → last ≡ refused_line s.refused ++ drop (length (refused_line s.refused)) out_after
+  pub piece_refused : {hits_after out_after last : List ℕ} {left : List ℤ} {s : Step} (n k : ℕ) (e : Refusal)
+      → IsCalled ws automaton p.state xs hits rises out hits_after left out_after s → s.answer ≡ Err e → k ≡ number e
+      → n ≡ length (refused_line k) → last ≡ refused_line k ++ drop (length (refused_line k)) out_after
       → IsNext Q out last (record { bytes = n; more = false; progress = p })
-  piece_refused {hits_after} {out_after} {last} {left} {s} n c l m w = go s.refused refl l
+  piece_refused {hits_after} {out_after} {last} {left} {s} n k e c z q m w = go k refl (omega (arith, q, number_positive e))
     where
-      go : (k : ℕ) → s.refused ≡ k → 0 < k → IsNext Q out last (record { bytes = n; more = false; progress = p })
-      go zero e h = absurd (let y : ⊥ = omega arith in y)
-      go (suc k) e h =
-          let f : refusal ≡ suc k = sym (told_refusal c) ∙ e in
+      go : (j : ℕ) → k ≡ j → 0 < j → IsNext Q out last (record { bytes = n; more = false; progress = p })
+      go zero d h = absurd (let y : ⊥ = omega arith in y)
+      go (suc j) d h =
+          let f : refusal ≡ suc j = sym (told_refusal c) ∙ ap (λ a. (told_batch a).0) z ∙ sym q ∙ d in
           let kept : out_after ≡ out = c.text ∙ ap (λ (r : ℕ). lines r ++ drop (length (lines r)) out) f in
-          let q : Q ≡ record { text = refused_line (suc k); more = false; progress = progress_of p } =
+          let at : Q ≡ record { text = refused_line (suc j); more = false; progress = progress_of p } =
           next_is ∙ ap (λ (r : ℕ). unless r (record { text = hit_lines (patterns_of ws) C.hits; more = true; progress = gone_on })
           (record { text = refused_line r; more = false; progress = progress_of p })) f in
-          subst (λ (x : pieces.Piece). IsNext x out last (record { bytes = n; more = false; progress = p })) (sym q)
+          subst (λ (x : pieces.Piece). IsNext x out last (record { bytes = n; more = false; progress = p })) (sym at)
           (record {
-            bytes = m ∙ ap (λ (r : ℕ). length (refused_line r)) e;
-            text = w ∙ ap (λ (r : ℕ). refused_line r ++ drop (length (refused_line r)) out_after) e
-                ∙ ap (λ (o : List ℕ). refused_line (suc k) ++ drop (length (refused_line (suc k))) o) kept;
+            bytes = m ∙ ap (λ (r : ℕ). length (refused_line r)) d;
+            text = w ∙ ap (λ (r : ℕ). refused_line r ++ drop (length (refused_line r)) out_after) d
+                ∙ ap (λ (o : List ℕ). refused_line (suc j) ++ drop (length (refused_line (suc j))) o) kept;
             more = refl;
             progress = refl;
           })
@@ -122,23 +124,23 @@ module _ (ws automaton : List ℕ) (text : List ℤ) (p : Progress) (hits : List
       go (inr (a, b, f)) = rw a refl
 
   -- it was accepted
-  pub piece_called : {hits_after out_after : List ℕ} {left : List ℤ} {s : Step} (a : ℕ)
-      → IsCalled ws automaton p.state xs hits rises out hits_after left out_after s → s.refused ≤ 0 → a ≡ (p.attempts + s.attempts) % 2 ^ 64
-      → IsNext Q out out_after (record { bytes = s.bytes; more = true; progress = record { state = s.state; attempts = a; ended = not s.more } })
-  piece_called {hits_after} {out_after} {left} {s} a c l m =
-      let f : refusal ≡ 0 = sym (told_refusal c) ∙ (omega arith) in
-      let t : summed s.refused s.more s.hits s.attempts ≡ summed 0 (eqb C.ended 0) (length C.hits) C.attempts =
-      c.answer ∙ ap (λ (r : ℕ). summary (r, unless r (C.ended, C.taken, length C.hits, C.attempts) (0, 0, 0, 0))) f in
+  pub piece_called : {hits_after out_after : List ℕ} {left : List ℤ} {s : Step} (a : ℕ) (b : Batch)
+      → IsCalled ws automaton p.state xs hits rises out hits_after left out_after s → s.answer ≡ Ok b → a ≡ (p.attempts + b.attempts) % 2 ^ 64
+      → IsNext Q out out_after (record { bytes = b.bytes; more = true; progress = record { state = s.state; attempts = a; ended = not b.more } })
+  piece_called {hits_after} {out_after} {left} {s} a b c z m =
+      let f : refusal ≡ 0 = sym (told_refusal c) ∙ ap (λ a. (told_batch a).0) z in
+      let t : summed 0 b.more b.hits b.attempts ≡ summed 0 (eqb C.ended 0) (length C.hits) C.attempts =
+      sym (ap told_batch z) ∙ c.answer ∙ ap (λ (r : ℕ). summary (r, unless r (C.ended, C.taken, length C.hits, C.attempts) (0, 0, 0, 0))) f in
       let q : Q ≡ record { text = hit_lines (patterns_of ws) C.hits; more = true; progress = gone_on } =
       next_is ∙ ap (λ (r : ℕ). unless r (record { text = hit_lines (patterns_of ws) C.hits; more = true; progress = gone_on })
       (record { text = refused_line r; more = false; progress = progress_of p })) f in
       let st : s.state ≡ state_after p.state xs C = c.state ∙ ap (λ (r : ℕ). unless r (state_after p.state xs C) p.state) f in
       let at : a ≡ (p.attempts + C.attempts) % 2 ^ 64 = m ∙ ap (λ (u : ℕ × (Bool × ℕ × ℕ)). (p.attempts + u.1.2) % 2 ^ 64) t in
-      let en : not s.more ≡ eqb C.ended 1 = ap (λ (u : ℕ × (Bool × ℕ × ℕ)). not u.1.0) t ∙ not-ended in
+      let en : not b.more ≡ eqb C.ended 1 = ap (λ (u : ℕ × (Bool × ℕ × ℕ)). not u.1.0) t ∙ not-ended in
       subst (λ (x : pieces.Piece). IsNext x out out_after
-      (record { bytes = s.bytes; more = true; progress = record { state = s.state; attempts = a; ended = not s.more } })) (sym q)
+      (record { bytes = b.bytes; more = true; progress = record { state = s.state; attempts = a; ended = not b.more } })) (sym q)
       (record {
-        bytes = c.bytes ∙ ap (λ (r : ℕ). length (lines r)) f;
+        bytes = sym (ap bytes_of z) ∙ c.bytes ∙ ap (λ (r : ℕ). length (lines r)) f;
         text = c.text ∙ ap (λ (r : ℕ). lines r ++ drop (length (lines r)) out) f;
         more = refl;
         progress = λ i. record { state = st i; attempts = at i; ended = en i };

@@ -1,9 +1,9 @@
 -- What is said first: of an input that is none, of a refusal, and the header.
 use Rattle.std.specs.Prelude.{◌≡◌, ◌∷◌, ◌++◌, ◌+◌, ◌-◌, ◌≤◌, ◌<◌}
-use Rattle.lists.proofs.Prelude.{◌∙◌, ap, ap₂, sym, refl, subst, true, false, Option, none, some, List, [], append_assoc, flatten, ℕ}
+use Rattle.lists.proofs.Prelude.{◌∙◌, ap, ap₂, sym, refl, subst, true, false, Option, None, Some, List, [], append_assoc, flatten, ℕ}
 use Rattle.lists.proofs.Prelude.{ℤ, length, length-append, length-take, take, drop, take-append_seam, drop-append_seam, drop-drop, ne_eqb, arith}
 use Rattle.hits_input.specs.Input.{Input, read_input}
-use Rattle.hits_input.specs.declared.Parsed.{Parsed}
+use Rattle.hits_input.specs.declared.InputSize.{InputSize}
 use Rattle.hits_input.specs.Read.{ends_of, HasInput, IsRead}
 use Rattle.hits_input.proofs.Fits.{front_ends, front_text}
 use Rattle.hits_output.specs.Output.{header, refused_line, bad_line}
@@ -42,7 +42,7 @@ parts_ends (p ∷ ps) from values rest e =
 
 pub first_good : (bytes : List ℕ) {set automaton out set_after automaton_after out_after : List ℕ} {values₀ text₀ values text : List ℤ}
     {ends₀ ends : List ℕ} {k n : ℕ} {r : First}
-    (i : Input) → read_input bytes ≡ some i → HasInput i values₀ ends₀ text₀ values ends text k n
+    (i : Input) → read_input bytes ≡ Some i → HasInput i values₀ ends₀ text₀ values ends text k n
     → IsSaid (piece_for (parts_of 0 (take k ends) values) set automaton) n out out_after r
     → set_after ≡ (make_set (parts_of 0 (take k ends) values) set).1
     → automaton_after ≡ (make_both (parts_of 0 (take k ends) values) set automaton).1
@@ -61,11 +61,11 @@ first_good bytes {set} {automaton} {out} {set_after} {automaton_after} {out_afte
       nodes = b ∙ ap (λ (xss : List (List ℤ)). (make_both xss set automaton).1) p;
     })
 
-pub bad_read : (bytes : List ℕ) (values₀ : List ℤ) (ends₀ : List ℕ) (text₀ values : List ℤ) (ends : List ℕ) (text : List ℤ) {parsed : Parsed}
-    → parsed ≡ Parsed.Bad → IsRead bytes values₀ ends₀ text₀ values ends text parsed → read_input bytes ≡ none
+pub bad_read : (bytes : List ℕ) (values₀ : List ℤ) (ends₀ : List ℕ) (text₀ values : List ℤ) (ends : List ℕ) (text : List ℤ) {parsed : Option InputSize}
+    → parsed ≡ None → IsRead bytes values₀ ends₀ text₀ values ends text parsed → read_input bytes ≡ None
 bad_read bytes values₀ ends₀ text₀ values ends text e r = subst (IsRead bytes values₀ ends₀ text₀ values ends text) e r
 
-pub first_bad : (bytes : List ℕ) {set automaton out out_after : List ℕ} {text : List ℤ} (n : ℕ) → read_input bytes ≡ none → n ≡ length bad_line
+pub first_bad : (bytes : List ℕ) {set automaton out out_after : List ℕ} {text : List ℤ} (n : ℕ) → read_input bytes ≡ None → n ≡ length bad_line
     → out_after ≡ bad_line ++ drop (length bad_line) out
     → IsFirst (read_input bytes) set automaton out text set automaton out_after (record { bytes = n; more = false; size = 0 })
 first_bad bytes {set} {automaton} {out} {out_after} {text} n e l w =

@@ -1,6 +1,6 @@
 -- What a piece in the buffer is, by the pieces of `hits_printed`, and how much a search has left.
 use Rattle.std.specs.Prelude.{◌≡◌, ◌++◌, ◌-◌}
-use Rattle.lists.specs.Prelude.{cond, Option, some, List, [], ℕ, suc, ℤ, length, take, drop}
+use Rattle.lists.specs.Prelude.{cond, Option, Some, List, [], ℕ, suc, ℤ, length, take, drop}
 use Rattle.hits_input.specs.Input.{Input}
 use Rattle.hits_printed.specs.Pieces as pieces
 use Rattle.hits_pieces.specs.declared.first.First.{First}
@@ -19,7 +19,7 @@ pub record IsSaid (q : pieces.Piece) (n : ℕ) (out out_after : List ℕ) (r : F
 
 -- the first piece, where these patterns were read
 abbrev pub piece_for : List (List ℤ) → List ℕ → List ℕ → pieces.Piece
-piece_for xss set automaton = pieces.first_piece (some (record { patterns = xss; text = [] })) set automaton
+piece_for xss set automaton = pieces.first_piece (Some (record { patterns = xss; text = [] })) set automaton
 
 -- the first piece for what was read, and what the arrays hold then. Of the array of the text only
 -- its values are told, and of an input that is none nothing

@@ -6,7 +6,6 @@ ghost use Rattle.hits_calls.specs.Prepared.{parts_of, make_set, make_both};
 ghost use Rattle.hits_pieces.specs.Said.{IsSaid, piece_for, IsFirst};
 
 use hits_calls::preparing;
-use hits_input::Parsed;
 
 // A piece at the front of the buffer: its bytes, whether more follows, and over how many values a
 // search follows.
@@ -19,6 +18,7 @@ pub struct First {
 
 // Makes set and automaton of the first k patterns, whose values lie one after the other, and says
 // the first refusal, or the header.
+// Seven parameters: the arrays that the program lends, and how much of them is used.
 fn say_prepared(
     values: &[i32],
     ends: &[u32],
@@ -35,25 +35,29 @@ fn say_prepared(
     ensures automaton_after { automaton.new
         ≡ (make_both (parts_of 0 (take k ends.now) values.now) set.old automaton.old).1 }
 {
-    let refused = preparing::prepare(values, &ends[..k], set, automaton);
-    if refused > 0 {
-        let bytes = hits_output::write_refused(refused as u64, out);
-        return First {
-            bytes,
-            more: false,
-            size,
-        };
-    }
-    let header = hits_output::write_header(out);
-    First {
-        bytes: header,
-        more: true,
-        size,
+    match preparing::prepare(values, &ends[..k], set, automaton) {
+        Ok(()) => {
+            let header = hits_output::write_header(out);
+            First {
+                bytes: header,
+                more: true,
+                size,
+            }
+        }
+        Err(r) => {
+            let bytes = hits_output::write_refused(u32::from(r) as u64, out);
+            First {
+                bytes,
+                more: false,
+                size,
+            }
+        }
     }
 }
 
 // The first piece for the bytes of an input. Where more follows, `text` begins with the values to
 // be searched.
+// Seven parameters: the arrays that the program lends, and how much of them is used.
 pub fn first_piece(
     bytes: &[u8],
     values: &mut [i32; 1023],
@@ -68,8 +72,8 @@ pub fn first_piece(
         set.new automaton.new out.new result }
 {
     match hits_input::read_input(bytes, values, ends, text) {
-        Parsed::Good(k, n) => say_prepared(values, ends, k, n, set, automaton, out),
-        Parsed::Bad => First {
+        Some(size) => say_prepared(values, ends, size.patterns, size.text, set, automaton, out),
+        None => First {
             bytes: hits_output::write_bad(out),
             more: false,
             size: 0,

@@ -6,7 +6,7 @@ ghost use Rattle.hits_printed.specs.Pieces.{start, next_piece};
 ghost use Rattle.hits_pieces.specs.Said.{progress_of, IsNext, left};
 
 use answers::SearchState;
-use hits_calls::{calls, preparing};
+use hits_calls::calls;
 
 // How far a search has come: the state that the last call handed back, the attempts of all calls,
 // and whether the values have ended.
@@ -38,6 +38,7 @@ pub fn begin() -> Progress
 }
 
 // The lines of the hits of one call more, or its refusal.
+// Seven parameters: the arrays that the program lends, and how far the search has come.
 fn call_once(
     set: &[u32],
     automaton: &[u32],
@@ -52,32 +53,38 @@ fn call_once(
         (length (hit_front hits.old out.old)) (progress_of p)) out.old out.new result }
 {
     let state = p.state;
-    let from = preparing::smaller(casts::wide(state.taken), text.len());
+    let from = (state.taken as usize).min(text.len());
     let s = calls::make_call(set, automaton, state, &text[from..], hits, rises, out);
-    if s.refused > 0 {
-        let bytes = hits_output::write_refused(s.refused as u64, out);
-        return Piece {
-            bytes,
-            more: false,
-            progress: p,
-        };
-    }
     let next = s.state;
-    let progress = Progress {
-        state: next,
-        attempts: std::num::wrapping_add_u64(p.attempts, s.attempts),
-        ended: !s.more,
-    };
-    Piece {
-        bytes: s.bytes,
-        more: true,
-        progress,
+    let answer = s.answer;
+    match answer {
+        Ok(batch) => {
+            let progress = Progress {
+                state: next,
+                attempts: std::num::wrapping_add_u64(p.attempts, batch.attempts),
+                ended: !batch.more,
+            };
+            Piece {
+                bytes: batch.bytes,
+                more: true,
+                progress,
+            }
+        }
+        Err(r) => {
+            let bytes = hits_output::write_refused(u32::from(r) as u64, out);
+            Piece {
+                bytes,
+                more: false,
+                progress: p,
+            }
+        }
     }
 }
 
 // The next piece: the attempts, where the values have ended, else what one call more finds. Of the
 // hit array a call gets as much as the buffer has lines for. The rises over the hits are not
 // printed.
+// Seven parameters: the arrays that the program lends, and how far the search has come.
 pub fn next_piece(
     set: &[u32],
     automaton: &[u32],

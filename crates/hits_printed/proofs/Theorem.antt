@@ -1,7 +1,7 @@
 -- THE THEOREM OF THE PIECES: `bad input` and a refusal are all; else the header is followed by the
 -- pieces of the search.
 use Rattle.std.specs.Prelude.{◌≡◌, ◌≤◌}
-use Rattle.lists.proofs.Prelude.{refl, Option, none, some, List, [], map, ℕ, zero, suc, length, arith, ne_eqb}
+use Rattle.lists.proofs.Prelude.{refl, Option, None, Some, List, [], map, ℕ, zero, suc, length, arith, ne_eqb}
 use Rattle.cartesian.specs.Cartesian.{distances}
 use Rattle.pattern_set.proofs.Good.{good_set_parts}
 use Rattle.hits_input.specs.Input.{Input, read_input}
@@ -15,7 +15,7 @@ use Rattle.hits_printed.proofs.Searching.{whole_search}
 -- an input that was read
 module _ (i : Input) (set automaton : List ℕ) (room : ℕ) (l : 1090 ≤ length set) (m : 16384 ≤ length automaton) (k : 128 ≤ room) (z : Sized i) where
   abbrev Said : List ℕ → Type 0
-  Said bytes = Prints (set_for (some i) set) (automaton_for (some i) set automaton) i.text room (first_piece (some i) set automaton) bytes
+  Said bytes = Prints (set_for (Some i) set) (automaton_for (Some i) set automaton) i.text room (first_piece (Some i) set automaton) bytes
 
   P : Prepared i.patterns set automaton
   P = prepared i.patterns set automaton l m z.patterns
@@ -50,5 +50,5 @@ pieces_theorem bytes set automaton room l m k = go (read_input bytes) refl
   where
     go : (o : Option Input) → read_input bytes ≡ o
         → Prints (set_for o set) (automaton_for o set automaton) (text_for o) room (first_piece o set automaton) (answer_or_bad o)
-    go none e = last refl refl
-    go (some i) e = answered i set automaton room l m k (input-Sized bytes i e)
+    go None e = last refl refl
+    go (Some i) e = answered i set automaton room l m k (input-Sized bytes i e)

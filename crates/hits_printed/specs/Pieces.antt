@@ -2,7 +2,7 @@
 -- what each piece is by the entries' definitions, and the theorem that all of them are what is
 -- printed.
 use Rattle.std.specs.Prelude.{◌≡◌, ◌++◌, ◌+◌, ◌%◌, ◌^◌, ◌≤◌}
-use Rattle.lists.specs.Prelude.{Bool, true, false, cond, Option, none, some, List, [], ℕ, eqb, ℤ, pos, length, drop, replicate}
+use Rattle.lists.specs.Prelude.{Bool, true, false, cond, Option, None, Some, List, [], ℕ, eqb, ℤ, pos, length, drop, replicate}
 use Rattle.answers.specs.declared.SearchState.{SearchState}
 use Rattle.answers.specs.Told.{new_search}
 use Rattle.pattern_set.specs.PatternSet.{patterns_of}
@@ -34,21 +34,21 @@ start = record { state = new_search; attempts = 0; ended = false }
 
 -- set and automaton in their arrays, where the input was read
 abbrev pub set_for : Option Input → List ℕ → List ℕ
-set_for none set = set
-set_for (some i) set = (make_set i.patterns set).1
+set_for None set = set
+set_for (Some i) set = (make_set i.patterns set).1
 
 abbrev pub automaton_for : Option Input → List ℕ → List ℕ → List ℕ
-automaton_for none set automaton = automaton
-automaton_for (some i) set automaton = (make_both i.patterns set automaton).1
+automaton_for None set automaton = automaton
+automaton_for (Some i) set automaton = (make_both i.patterns set automaton).1
 
 abbrev pub text_for : Option Input → List ℤ
-text_for none = []
-text_for (some i) = i.text
+text_for None = []
+text_for (Some i) = i.text
 
 -- `bad input`, a refusal, or the header, behind which more follows
 abbrev pub first_piece : Option Input → List ℕ → List ℕ → Piece
-first_piece none set automaton = record { text = bad_line; more = false; progress = start }
-first_piece (some i) set automaton =
+first_piece None set automaton = record { text = bad_line; more = false; progress = start }
+first_piece (Some i) set automaton =
     let r = (make_both i.patterns set automaton).0 in
     cond (eqb r 0) (record { text = header; more = true; progress = start }) (record { text = refused_line r; more = false; progress = start })
 

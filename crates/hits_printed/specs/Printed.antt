@@ -1,7 +1,7 @@
 -- What the program `hits` prints for the bytes that it reads, by trees: it knows neither calls nor
 -- arrays nor the automaton. Document 01: Program `hits`.
 use Rattle.std.specs.Prelude.{◌||◌, ◌∷◌, ◌++◌, ◌+◌}
-use Rattle.lists.specs.Prelude.{cond, Option, none, some, List, [], map, flatten, ℕ, eqb, leb, ltb, ℤ, length}
+use Rattle.lists.specs.Prelude.{cond, Option, None, Some, List, [], map, flatten, ℕ, eqb, leb, ltb, ℤ, length}
 use Rattle.gaps.specs.Gaps.{holds_gap}
 use Rattle.cartesian.specs.Cartesian.{distances}
 use Rattle.pattern_set.specs.PatternSet.{PatternSet, has_one_value}
@@ -28,8 +28,8 @@ answer_to i =
     cond (eqb r 0) (header ++ (hit_lines ps (hits ps i.text) ++ closing_line (attempts_on ps [] i.text))) (refused_line r)
 
 abbrev pub answer_or_bad : Option Input → List ℕ
-answer_or_bad none = bad_line
-answer_or_bad (some i) = answer_to i
+answer_or_bad None = bad_line
+answer_or_bad (Some i) = answer_to i
 
 unfoldable pub printed : List ℕ → List ℕ
 printed bytes = answer_or_bad (read_input bytes)

@@ -4,7 +4,8 @@
 pub use mathlib.Core.Path.{◌∙◌, ap, sym, refl, subst, ap₂}
 pub use mathlib.Core.Logic.{inl, inr, ⊎_elim}
 pub use mathlib.Core.Bool.{Bool, true, false, cond, not, true≢false, false≢true}
-pub use mathlib.Core.Option.{Option, none, some, some-injective, none-ne-some}
+pub use Rattle.std.specs.Prelude.{Option, None, Some}
+pub use Rattle.std.proofs.lemmas.Option.{same_Some, none-some}
 pub use mathlib.Core.List.Memᴰ.{head as Memᴰ-head}
 pub use mathlib.Core.List.Memᴰ.{not-nil as Memᴰ-not-nil}
 pub use mathlib.Core.List.Memᴰ.{tail as Memᴰ-tail}

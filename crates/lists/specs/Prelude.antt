@@ -1,8 +1,8 @@
 -- What all definitions are written with: the library's symbols, under their own names and with
 -- their own meaning, and a few functions on lists. Operators come from the kit's own prelude.
-pub use mathlib.Core.{Bool.{Bool, true, false, cond, not}, Option.{Option, none, some}}
+pub use mathlib.Core.Bool.{Bool, true, false, cond, not}
 pub use mathlib.Core.List.{List, [], map, flatten, foldr, Memᴰ}
-pub use Rattle.std.specs.Prelude.{ℕ, zero, suc, pred, min}
+pub use Rattle.std.specs.Prelude.{ℕ, zero, suc, pred, min, Option, None, Some}
 pub use lib.{Dec.{T, eqb, leb, ltb}, IntN.{ℤ, pos, negsuc}, Signed.{le_z, lt_z}, ListN.{length, get_or, take, drop, set, replicate}}
 use Rattle.std.specs.Prelude.{◌∷◌, ◌++◌, ◌-◌, ◌&&◌, ◌||◌}
 

@@ -1,69 +1,122 @@
 -- The ways through this crate's functions, in the machine's words.
 use Rattle.std.specs.Prelude.{◌≡◌, ◌&&◌, ◌+◌, ◌-◌, ◌%◌, ◌≤◌, ◌<◌}
-use Rattle.lists.proofs.Prelude.{◌∙◌, ap, sym, refl, subst, ap₂, Bool, true, false, cond, List, [], ℕ, zero, suc}
-use Rattle.lists.proofs.Prelude.{ℤ, pos, le_z, T, leb, ltb, ltb→lt, lt→ltb, get_or, set, add-one, dec_lt, arith, le-ltb, lt-ltb, last_below}
+use Rattle.lists.proofs.Prelude.{◌∙◌, ap, sym, refl, subst, ap₂, Bool, true, false, cond, ℕ, zero, suc}
+use Rattle.lists.proofs.Prelude.{ℤ, le_z, T, ltb, ltb→lt, lt→ltb, set, add-one, dec_lt, arith, last_below}
 use Rattle.lists.proofs.Tests.{and_split, and_join, test_ext, T-true, true-T}
 use Rattle.lists.proofs.LastBelow.{last_below_yes, last_below_no, last_below_end}
-use Rattle.search_model.specs.Ring.{Ring, slot, place_at, value_at, good_ring, is_old, aged, back, distance_of, kept}
-use Rattle.search_model.proofs.Ring.{without, put, aged-without, kept-le, pushed-put}
+use Rattle.answers.specs.declared.SearchState.{SearchState}
+use Rattle.search_model.specs.Ring.{Ring, slot, place_at, value_at, good_ring, is_old, aged, back, distance_of, kept, pushed}
+use Rattle.search_model.proofs.Ring.{without, aged-without, kept-le, pushed-put}
 use Rattle.search_model.proofs.Good.{good, is-Good, not-Good, Good-below, Good-few}
-use Rattle.search_model.proofs.Push.{aged-Young}
-use Rattle.open_minima.specs.declared.Kept.{Kept}
-use Rattle.open_minima.specs.Parts.{ring_at, ring_from, AreCounters, follows, in_order, IsKept, IsPushed}
+use Rattle.search_model.proofs.Push.{aged-Young, Young-few}
+use Rattle.open_minima.specs.Parts.{ring_of, with_ring, front, follows, in_order}
 
--- ---- the counters
+-- ---- the push
 
--- the slot of open minimum i is that of its counter
-pub slot_from : (first i : ℕ) → (first % 256 + i) % 256 ≡ (first + i) % 256
-slot_from first i = omega arith
-
--- 1 or 0
-pub old_one : (taken place old : ℕ) → old ≡ cond (leb (place + 256) taken) 1 0 → old ≤ 1
-old_one taken place old e = go (leb (place + 256) taken) e
+-- without the oldest, if it is too old, the ring starts one slot later
+pub aged_by : (taken : ℕ) (r : Ring) (old : ℕ) → r.first < 256 → old ≡ cond (is_old taken r) 1 0
+    → aged taken r ≡ record r { minima = r.minima - old; first = slot r old }
+aged_by taken r old h e = aged-without taken r ∙ go (is_old taken r) ∙ ap (λ (n : ℕ). record r { minima = r.minima - n; first = slot r n }) (sym e)
   where
-    go : (b : Bool) → old ≡ cond b 1 0 → old ≤ 1
-    go true e = omega arith
-    go false e = omega arith
+    go : (b : Bool) → without r b ≡ record r { minima = r.minima - cond b 1 0; first = slot r (cond b 1 0) }
+    go true = refl
+    go false = λ j. record r {
+      minima = (let q : r.minima ≡ r.minima - 0 = omega arith in q) j;
+      first = (let q : r.first ≡ (r.first + 0) % 256 = omega arith in q) j;
+    }
 
--- without the oldest, if it is too old, the ring starts one counter later
-module _ (taken first next : ℕ) (places : List ℕ) (values : List ℤ) where
-  abbrev pub start_of : ℕ
-  start_of = first + cond (ltb first next && leb (get_or places (first % 256) 0 + 256) taken) 1 0
+module _ (r : Ring) (x : ℤ) where
+  test : ℕ → Bool
+  test i = le_z (value_at r i) x
 
-  old_is : ltb first next && leb (get_or places (first % 256) 0 + 256) taken ≡ is_old taken (ring_from first next places values)
-  old_is =
-      let e : first % 256 ≡ (first % 256 + 0) % 256 = omega arith in
-      ap₂ (λ (b : Bool) (k : ℕ). b && leb (get_or places k 0 + 256) taken)
-      (test_ext (ltb first next) (ltb 0 (next - first)) (λ t. lt→ltb 0 (next - first) (omega (arith, ltb→lt first next t)))
-      (λ t. lt→ltb first next (omega (arith, ltb→lt 0 (next - first) t)))) e
-
-  start_le : first ≤ next → start_of ≤ next
-  start_le h = go (ltb first next) refl (leb (get_or places (first % 256) 0 + 256) taken)
+  -- as many of the three newest of n are closed as fail the test before the first that holds
+  pub three_closed : (n k : ℕ) → 3 ≤ n
+      → k ≡ cond (le_z (value_at r (n - 1)) x) 0 (cond (le_z (value_at r (n - 2)) x) 1 (cond (le_z (value_at r (n - 3)) x) 2 3))
+      → kept (front r (n - k)) x ≡ kept (front r n) x
+  unfolding kept test
+  three_closed n k h e = ap (λ (i : ℕ). last_below test (n - i)) e ∙ go (test (n - 1)) refl (test (n - 2)) refl (test (n - 3)) refl
     where
-      go : (a : Bool) → ltb first next ≡ a → (b : Bool) → first + cond (a && b) 1 0 ≤ next
-      go true e true = omega (arith, ltb→lt first next (T-true (ltb first next) e))
-      go true e false = omega arith
-      go false e b = omega arith
+      one : test (n - 1) ≡ false → last_below test (n - 1) ≡ last_below test n
+      one p = sym (last_below_no test n (omega arith) p)
 
-  pub aged_from : first ≤ next → aged taken (ring_from first next places values) ≡ ring_from start_of next places values
-  aged_from h =
-      aged-without taken (ring_from first next places values)
-      ∙ ap (without (ring_from first next places values)) (sym old_is)
-      ∙ go (ltb first next && leb (get_or places (first % 256) 0 + 256) taken)
+      two : test (n - 2) ≡ false → last_below test (n - 2) ≡ last_below test (n - 1)
+      two p = ap (last_below test) (let q : n - 2 ≡ n - 1 - 1 = omega arith in q)
+          ∙ sym (last_below_no test (n - 1) (omega arith) (ap test (let q : n - 1 - 1 ≡ n - 2 = omega arith in q) ∙ p))
+
+      three : test (n - 3) ≡ false → last_below test (n - 3) ≡ last_below test (n - 2)
+      three p = ap (last_below test) (let q : n - 3 ≡ n - 2 - 1 = omega arith in q)
+          ∙ sym (last_below_no test (n - 2) (omega arith) (ap test (let q : n - 2 - 1 ≡ n - 3 = omega arith in q) ∙ p))
+
+      go : (a : Bool) → test (n - 1) ≡ a → (b : Bool) → test (n - 2) ≡ b → (c : Bool) → test (n - 3) ≡ c
+          → last_below test (n - cond a 0 (cond b 1 (cond c 2 3))) ≡ last_below test n
+      go true p b q c t = ap (last_below test) (let z : n - 0 ≡ n = omega arith in z)
+      go false p true q c t = one p
+      go false p false q true t = two q ∙ one p
+      go false p false q false t = three t ∙ two q ∙ one p
+
+  -- the newest of n is above the value, and so closed; it is not, and so kept; none is left
+  pub kept_closed : (n : ℕ) → 0 < n → le_z (value_at r (n - 1)) x ≡ false → kept (front r (n - 1)) x ≡ kept (front r n) x
+  unfolding kept
+  kept_closed n h e = sym (last_below_no (λ i. le_z (value_at r i) x) n h e)
+
+  pub kept_found : (n : ℕ) → 0 < n → le_z (value_at r (n - 1)) x ≡ true → n ≡ kept (front r n) x
+  unfolding kept
+  kept_found n h e = last_below_yes (λ i. le_z (value_at r i) x) n h e
+
+  pub kept_none : (n : ℕ) → n ≤ 0 → n ≡ kept (front r n) x
+  unfolding kept
+  kept_none n h = (let e : n ≡ 0 = omega arith in e) ∙ last_below_end (λ i. le_z (value_at r i) x) n h
+
+pub back_some : (taken : ℕ) (r : Ring) (n : ℕ) → 0 < n → taken - place_at r (n - 1) ≡ back taken r n
+back_some taken r zero h = omega arith
+back_some taken r (suc n) h = ap (λ (i : ℕ). taken - place_at r i) (omega arith)
+
+module _ (st : SearchState) (st' : SearchState) (x : ℤ) (e : st' ≡ with_ring st (aged st.taken (ring_of st))) where
+  -- the ring aged starts in a slot
+  young : ring_of st' ≡ aged st.taken (ring_of st)
+  young = ap ring_of e ∙ exact (aged st.taken (ring_of st)) first
     where
-      go : (b : Bool) → without (ring_from first next places values) b ≡ ring_from (first + cond b 1 0) next places values
-      go true = ap₂ (λ (n f : ℕ). ring_at n f places values) (omega arith) (omega arith)
-      go false = ap₂ (λ (n f : ℕ). ring_at n f places values) (omega arith) (omega arith)
+      first : (aged st.taken (ring_of st)).first < 256
+      first = omega (arith, ap (λ (r : Ring). r.first) (aged_by st.taken (ring_of st) _ (omega arith) refl))
+
+      exact : (r : Ring) → r.first < 256 → record r { first = r.first % 256 } ≡ r
+      exact r h = λ j. record r { first = (let q : r.first % 256 ≡ r.first = omega arith in q) j }
+
+  -- those kept are few, and the places before the next one
+  pub kept_few : good_ring st.taken (ring_of st) ≡ true → (n : ℕ) → n ≡ kept (ring_of st') x → n ≤ 256
+  kept_few g n k =
+      let a = aged st.taken (ring_of st) in
+      omega (arith, kept-le a x, Young-few st.taken a (aged-Young st.taken (ring_of st) (good st.taken (ring_of st) g)), k ∙ ap (λ (r : Ring). kept r x) young)
+
+  pub kept_before : good_ring st.taken (ring_of st) ≡ true → (n : ℕ) → n ≡ kept (ring_of st') x → 0 < n → place_at (ring_of st') (n - 1) ≤ st'.taken
+  kept_before g n k h =
+      let a = aged st.taken (ring_of st) in
+      let y = (aged-Young st.taken (ring_of st) (good st.taken (ring_of st) g)).below (n - 1)
+      (omega (arith, kept-le a x, k ∙ ap (λ (r : Ring). kept r x) young)) in
+      omega (arith, y, ap (λ (r : Ring). place_at r (n - 1)) young, ap (λ (s : SearchState). s.taken) e)
+
+  -- what the parts of the push make together
+  pub is_pushed : (n : ℕ) → n ≡ kept (ring_of st') x
+      → record st' { minima = n + 1; places = set st'.places (slot (ring_of st') n) st'.taken; values = set st'.values (slot (ring_of st') n) x }
+      ≡ with_ring st (pushed st.taken (ring_of st) x)
+  is_pushed n k =
+      let a = aged st.taken (ring_of st) in
+      let on : ℕ → Ring → SearchState → SearchState = λ m r s. record s {
+        minima = m + 1;
+        places = set s.places (slot r m) s.taken;
+        values = set s.values (slot r m) x;
+      } in
+      ap (λ (m : ℕ). on m (ring_of st') st') (k ∙ ap (λ (r : Ring). kept r x) young)
+      ∙ ap₂ (on (kept a x)) young e
+      ∙ ap (with_ring st) (sym (pushed-put st.taken (ring_of st) x))
+
+  pub is_distance : (n : ℕ) → n ≡ kept (ring_of st') x → back st'.taken (ring_of st') n ≡ distance_of st.taken (ring_of st) x
+  unfolding distance_of
+  is_distance n k =
+      ap (back st'.taken (ring_of st')) k
+      ∙ ap₂ (λ (t : ℕ) (r : Ring). back t r (kept r x)) (ap (λ (s : SearchState). s.taken) e) young
 
 -- ---- the next open minimum follows
-
-pub follows_not : (r : Ring) (i a b : ℕ) → a ≡ (r.first + i) % 256 → b ≡ (r.first + (i + 1)) % 256 → get_or r.places b 0 ≤ get_or r.places a 0
-    → false ≡ follows r i
-follows_not r i a b ea eb h = rw (le-ltb (place_at r i) (place_at r (i + 1)) (rw (ea, eb) at h)) refl
-
-pub follows_is : (r : Ring) (i a b : ℕ) (t : Bool) → a ≡ (r.first + i) % 256 → b ≡ (r.first + (i + 1)) % 256 → get_or r.places a 0 < get_or r.places b 0
-    → t ≡ le_z (get_or r.values a (pos 0)) (get_or r.values b (pos 0)) → t ≡ follows r i
-follows_is r i a b t ea eb h e = rw (lt-ltb (place_at r i) (place_at r (i + 1)) (rw (ea, eb) at h)) (rw (ea, eb) at e)
 
 pub in_order_more : (r : Ring) (i : ℕ) → in_order r i ≡ true → follows r i ≡ true → in_order r (i + 1) ≡ true
 unfolding in_order
@@ -158,144 +211,3 @@ module _ (taken : ℕ) (r : Ring) where
           at_in_order r (r.minima - 1)
           (λ i m. subst T (sym (next i)) (and_join (Later i) (Higher i) (lt→ltb (place_at r i) (place_at r (suc i)) (g.rises i (omega arith)))
           (g.climbs i (omega arith))))
-
--- ---- what is kept
-
-module _ (start next : ℕ) (places : List ℕ) (values : List ℤ) (x : ℤ) (taken : ℕ) where
-  abbrev ring : Ring
-  ring = ring_from start next places values
-
-  -- of the open minima before a counter
-  abbrev pub kept_before : ℕ → ℕ
-  kept_before at = last_below (λ i. le_z (value_at ring i) x) (at - start)
-
-  pub kept_all : kept ring x ≡ kept_before next
-  unfolding kept
-  kept_all = refl
-
-  -- those from a counter on are closed, whatever the places
-  pub kept_from : (at : ℕ) → kept (ring_from start at [] values) x ≡ kept (ring_from start next [] values) x → kept ring x ≡ kept_before at
-  unfolding kept
-  kept_from at e = sym e
-
-  -- the newest before a counter
-  newest_slot : (at : ℕ) → start < at → (at - 1) % 256 ≡ slot ring (at - start - 1)
-  newest_slot at h = omega arith
-
-  pub newest_place : (at : ℕ) → start < at → get_or places ((at - 1) % 256) 0 ≡ place_at ring (at - start - 1)
-  newest_place at h = ap (λ (j : ℕ). get_or places j 0) (newest_slot at h)
-
-  -- it is not above the value, and so kept
-  pub kept_found : (at : ℕ) → start < at → kept ring x ≡ kept_before at → le_z (get_or values ((at - 1) % 256) (pos 0)) x ≡ true
-      → IsKept taken start ring x (record { at = at; distance = taken - get_or places ((at - 1) % 256) 0 })
-  kept_found at h e t =
-      let n = at - start in
-      let s = newest_slot at h in
-      let k : n ≡ kept ring x = last_below_yes (λ i. le_z (value_at ring i) x) n (omega arith)
-      (ap (λ (j : ℕ). le_z (get_or values j (pos 0)) x) (sym s) ∙ t) ∙ sym e in
-      let m : suc (n - 1) ≡ kept ring x = omega arith in
-      record { at = omega arith; distance = ap (λ (j : ℕ). taken - get_or places j 0) s ∙ ap (back taken ring) m }
-
-  -- it is above the value, and so closed
-  pub kept_closed : (at : ℕ) → start < at → kept ring x ≡ kept_before at → le_z (get_or values ((at - 1) % 256) (pos 0)) x ≡ false
-      → kept ring x ≡ kept_before (at - 1)
-  kept_closed at h e t =
-      let n = at - start in
-      let l = last_below_no (λ i. le_z (value_at ring i) x) n (omega arith) (ap (λ (j : ℕ). le_z (get_or values j (pos 0)) x) (sym (newest_slot at h)) ∙ t) in
-      let q : n - 1 ≡ at - 1 - start = omega arith in
-      e ∙ l ∙ ap (last_below (λ i. le_z (value_at ring i) x)) q
-
-  -- all are closed
-  pub kept_none : (at : ℕ) → start ≤ at → at ≤ start → kept ring x ≡ kept_before at → IsKept taken start ring x (record { at = start; distance = 0 })
-  kept_none at h l e =
-      let k : 0 ≡ kept ring x = last_below_end (λ i. le_z (value_at ring i) x) (at - start) (omega arith) ∙ sym e in
-      record { at = omega arith; distance = ap (back taken ring) k }
-
--- ---- three closed at once
-
--- how many of three tests fail before the first that holds
-abbrev failed_first : Bool → Bool → Bool → ℕ
-failed_first a b c = cond a 0 (cond b 1 (cond c 2 3))
-
-pub failed_few : (a b c : Bool) (n : ℕ) → n ≡ failed_first a b c → n ≤ 3
-failed_few true b c n e = omega arith
-failed_few false true c n e = omega arith
-failed_few false false true n e = omega arith
-failed_few false false false n e = omega arith
-
-module _ (start next : ℕ) (values : List ℤ) (x : ℤ) where
-  -- is the value in the slot of a counter not above
-  abbrev NotAbove : ℕ → Bool
-  NotAbove at = le_z (get_or values (at % 256) (pos 0)) x
-
-  -- those from the counter on are all closed
-  abbrev Closed : ℕ → Type 0
-  Closed at = kept (ring_from start next [] values) x ≡ kept_before start next [] values x 0 at
-
-  one-Closed : (at to : ℕ) → to ≡ at - 1 → start < at → NotAbove to ≡ false → Closed at → Closed to
-  one-Closed at to e h t s = subst Closed (sym e) (kept_closed start next [] values x 0 at h s (ap NotAbove (sym e) ∙ t))
-
-  Closed-from : (at n : ℕ) → at ≡ next - n → start ≤ at → Closed at
-      → (start ≤ next - n) × (next - n ≤ next) × (kept (ring_from start (next - n) [] values) x ≡ kept (ring_from start next [] values) x)
-  unfolding kept
-  Closed-from at n e h s = (omega arith, omega arith, sym (subst Closed e s))
-
-  pub three_closed : start + 3 ≤ next → (n : ℕ) → n ≡ failed_first (NotAbove (next - 1)) (NotAbove (next - 2)) (NotAbove (next - 3))
-      → (start ≤ next - n) × (next - n ≤ next) × (kept (ring_from start (next - n) [] values) x ≡ kept (ring_from start next [] values) x)
-  three_closed h n e = go (NotAbove (next - 1)) refl (NotAbove (next - 2)) refl (NotAbove (next - 3)) refl e
-    where
-      none : Closed next
-      none = kept_all start next [] values x 0
-
-      go : (a : Bool) → NotAbove (next - 1) ≡ a → (b : Bool) → NotAbove (next - 2) ≡ b → (c : Bool) → NotAbove (next - 3) ≡ c → n ≡ failed_first a b c
-          → (start ≤ next - n) × (next - n ≤ next) × (kept (ring_from start (next - n) [] values) x ≡ kept (ring_from start next [] values) x)
-      go true p b q c r e = Closed-from next n (omega arith) (omega arith) none
-      go false p true q c r e =
-          Closed-from (next - 1) n (omega arith) (omega arith) (one-Closed next (next - 1) refl (omega arith) p none)
-      go false p false q true r e =
-          Closed-from (next - 2) n (omega arith) (omega arith) (one-Closed (next - 1) (next - 2) (omega arith) (omega arith) q
-          (one-Closed next (next - 1) refl (omega arith) p none))
-      go false p false q false r e =
-          Closed-from (next - 3) n (omega arith) (omega arith) (one-Closed (next - 2) (next - 3) (omega arith) (omega arith) r
-          (one-Closed (next - 1) (next - 2) (omega arith) (omega arith) q (one-Closed next (next - 1) refl (omega arith) p none)))
-
--- ---- the push
-
-module _ (taken first next : ℕ) (places : List ℕ) (values : List ℤ) (c : AreCounters taken first next) (start : ℕ)
-    (s : start ≡ start_of taken first next places values) where
-  abbrev before : Ring
-  before = ring_from first next places values
-
-  abbrev young : Ring
-  young = ring_from start next places values
-
-  is_young : aged taken before ≡ young
-  is_young = aged_from taken first next places values c.ordered ∙ ap (λ (f : ℕ). ring_from f next places values) (sym s)
-
-  pub start_ordered : start ≤ next
-  start_ordered = rw s (start_le taken first next places values c.ordered)
-
-  -- the places of those left are before the next one
-  pub young_below : good_ring taken before ≡ true → (j : ℕ) → j < next - start → place_at young j < taken
-  young_below g = subst (λ (r : Ring). (j : ℕ) → j < r.minima → place_at r j < taken) is_young (aged-Young taken before (good taken before g)).below
-
-  -- what the parts of the push make together
-  pub is_pushed : (x : ℤ) (k : Kept) (ps : List ℕ) (vs : List ℤ) → IsKept taken start young x k → ps ≡ set places (k.at % 256) taken
-      → vs ≡ set values (k.at % 256) x
-      → IsPushed taken before x ps vs (record { first = start; next = k.at + 1; distance = k.distance })
-  unfolding distance_of
-  is_pushed x k ps vs h p v =
-      let n = kept young x in
-      let at : k.at % 256 ≡ slot young n = ap (λ (j : ℕ). j % 256) h.at ∙ sym (slot_from start n) in
-      let q : k.at + 1 - start ≡ n + 1 = omega (arith, h.at) in
-      let made : ring_from start (k.at + 1) ps vs ≡ put taken young x = λ i. record {
-        minima = q i;
-        first = start % 256;
-        places = (p ∙ ap (λ (j : ℕ). set places j taken) at) i;
-        values = (v ∙ ap (λ (j : ℕ). set values j x) at) i;
-      } in
-      record {
-        ring = made ∙ ap (λ (r : Ring). put taken r x) (sym is_young) ∙ sym (pushed-put taken before x);
-        counters = record { ordered = omega (arith, h.at); small = omega (arith, h.at, kept-le young x, start_ordered, c.small) };
-        distance = h.distance ∙ ap (λ (r : Ring). back taken r (kept r x)) (sym is_young);
-      }

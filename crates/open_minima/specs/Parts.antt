@@ -1,23 +1,20 @@
--- The ring of open minima by two counters, and what a push leaves in the parts that a caller lends.
-use Rattle.std.specs.Prelude.{◌≡◌, ◌&&◌, ◌+◌, ◌-◌, ◌%◌, ◌≤◌}
-use Rattle.lists.specs.Prelude.{Bool, true, List, ℕ, zero, suc, ltb, ℤ, le_z}
-use Rattle.search_model.specs.Ring.{Ring, place_at, value_at, kept, back, distance_of, pushed}
-use Rattle.open_minima.specs.declared.Kept.{Kept}
-use Rattle.open_minima.specs.declared.Pushed.{Pushed}
+-- The ring of open minima of a search state, and the parts of what a push does.
+use Rattle.std.specs.Prelude.{◌&&◌, ◌+◌}
+use Rattle.lists.specs.Prelude.{Bool, true, ℕ, zero, suc, ltb, le_z}
+use Rattle.answers.specs.declared.SearchState.{SearchState}
+use Rattle.search_model.specs.Ring.{Ring, place_at, value_at}
+use Rattle.search_model.specs.Search.{position_of}
 
--- the ring that the parts make
-abbrev pub ring_at : ℕ → ℕ → List ℕ → List ℤ → Ring
-ring_at minima first places values = record { minima = minima; first = first; places = places; values = values }
+-- the ring of a state, whose word `first` counts modulo 256; and the state with this ring
+abbrev pub ring_of : SearchState → Ring
+ring_of st = (position_of st).ring
 
--- the open minima from the counter `first` on to before the counter `next`; counter c lies in slot
--- c mod 256
-abbrev pub ring_from : ℕ → ℕ → List ℕ → List ℤ → Ring
-ring_from first next places values = ring_at (next - first) (first % 256) places values
+abbrev pub with_ring : SearchState → Ring → SearchState
+with_ring st r = record st { minima = r.minima; first = r.first; places = r.places; values = r.values }
 
--- the counters of a search that has taken so many values; where they are equal, no minimum is open
-pub record AreCounters (taken first next : ℕ) : Type 0 where
-  pub ordered : first ≤ next
-  pub small : next ≤ taken + 512
+-- the ring of the first n open minima
+abbrev pub front : Ring → ℕ → Ring
+front r n = record r { minima = n }
 
 -- does the open minimum after i have a later place and no smaller value
 abbrev pub follows : Ring → ℕ → Bool
@@ -27,14 +24,3 @@ follows r i = ltb (place_at r i) (place_at r (i + 1)) && le_z (value_at r i) (va
 unfoldable pub in_order : Ring → ℕ → Bool
 in_order r zero = true
 in_order r (suc n) = in_order r n && follows r n
-
--- what is kept of the ring from the counter `start` on, and the distance to the newest that is
-pub record IsKept (taken start : ℕ) (r : Ring) (x : ℤ) (k : Kept) : Type 0 where
-  pub at : k.at ≡ start + kept r x
-  pub distance : k.distance ≡ back taken r (kept r x)
-
--- what the push of x onto the ring leaves in the lent arrays, and what it answers
-pub record IsPushed (taken : ℕ) (r : Ring) (x : ℤ) (places : List ℕ) (values : List ℤ) (p : Pushed) : Type 0 where
-  pub ring : ring_from p.first p.next places values ≡ pushed taken r x
-  pub counters : AreCounters (taken + 1) p.first p.next
-  pub distance : p.distance ≡ distance_of taken r x

@@ -1,2 +1,1 @@
 -- The root of the crate's laws.
-pub mod Laws

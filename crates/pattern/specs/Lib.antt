@@ -1,2 +1,1 @@
 -- The root of the crate's definitions.
-pub mod Checked

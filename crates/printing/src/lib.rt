@@ -5,7 +5,8 @@ ghost use Rattle.std.specs.Prelude.{◌≤◌, length};
 
 use std::io::{Read, Write};
 
-// Prints bytes; whether all of them were taken.
+// Prints bytes; whether all of them were taken. No clause can say what a terminal or a file takes,
+// so none ties the answer to the bytes; the same holds for the number below.
 pub fn write_all(rt: &HostRuntime, text: &[u8]) -> bool {
     match rt.stdout().write_all(text) {
         Ok(()) => true,

@@ -1,13 +1,13 @@
 -- The ways through this crate's functions, in the machine's words: the two tests of the values
 -- kept, and the values of a call put one after the other.
-use Rattle.std.specs.Prelude.{◌≡◌, ◌&&◌, ◌||◌, ◌∷◌, ◌++◌, ◌+◌, ◌%◌, ◌≤◌, ◌<◌}
+use Rattle.std.specs.Prelude.{◌≡◌, ◌||◌, ◌∷◌, ◌++◌, ◌+◌, ◌%◌, ◌≤◌, ◌<◌}
 use Rattle.lists.proofs.Prelude.{◌∙◌, ap, sym, refl, Bool, true, false, List, [], ℕ, zero, suc, ℤ, pos}
 use Rattle.lists.proofs.Prelude.{eq_z, ltb, le-ltb, lt-ltb, length, get_or, set, take, drop, take-suc, drop-append-le, drop_of_length-le, length-drop}
 use Rattle.lists.proofs.Prelude.{length-take-le, add-one, arith, tabulate, all}
 use Rattle.lists.proofs.Tests.{T-true, true-T}
 use Rattle.lists.proofs.Members.{all_below, below_all, below_none, below_more, below_fails}
 use Rattle.search_model.specs.Ring.{Ring, place_at, value_at}
-use Rattle.search_model.specs.Recent.{kept_for, keeping, unfilled_from, kept_minima, good_recent}
+use Rattle.search_model.specs.Recent.{kept_for, keeping, unfilled_from, kept_minima}
 use Rattle.search_model.proofs.Recent.{keeping-append, keeping_last}
 
 -- ---- the slots not yet filled
@@ -50,34 +50,14 @@ module _ (r : Ring) (recent : List ℤ) where
   abbrev pub kept_below : ℕ → Bool
   kept_below n = all is_kept (tabulate n (λ i. i))
 
-  -- the test of the machine, which is handed the slot and the place in it
-  abbrev test_at : ℕ → Bool
-  test_at s = eq_z (get_or r.values s (pos 0)) (kept_for recent (get_or r.places s 0))
-
   pub kept_none : kept_below 0 ≡ true
   kept_none = below_none is_kept
 
-  pub kept_more : (i s : ℕ) → s ≡ (r.first + i) % 256 → kept_below i ≡ true → test_at s ≡ true → kept_below (i + 1) ≡ true
-  kept_more i s e k t = below_more is_kept i k (ap test_at (sym e) ∙ t)
+  pub kept_more : (i : ℕ) → kept_below i ≡ true → is_kept i ≡ true → kept_below (i + 1) ≡ true
+  kept_more i k t = below_more is_kept i k t
 
-  pub kept_not : (i s : ℕ) → s ≡ (r.first + i) % 256 → i < r.minima → test_at s ≡ false → false ≡ kept_minima r recent
-  kept_not i s e l t = sym (below_fails is_kept r.minima i l (ap test_at (sym e) ∙ t))
-
-  pub kept_all : (i : ℕ) → i ≡ r.minima → kept_below i ≡ true → true ≡ kept_minima r recent
-  kept_all i e k = sym (ap kept_below (sym e) ∙ k)
-
--- ---- both tests
-
-module _ (taken : ℕ) (r : Ring) (recent : List ℤ) where
-  -- a slot not yet filled is not 0
-  pub good_not : unfilled_from taken recent ≡ false → false ≡ good_recent taken r recent
-  unfolding good_recent
-  good_not e = ap (λ (b : Bool). b && kept_minima r recent) (sym e)
-
-  -- all are 0: the open minima decide
-  pub good_is : unfilled_from taken recent ≡ true → kept_minima r recent ≡ good_recent taken r recent
-  unfolding good_recent
-  good_is e = ap (λ (b : Bool). b && kept_minima r recent) (sym e)
+  pub kept_not : (i : ℕ) → i < r.minima → is_kept i ≡ false → false ≡ kept_minima r recent
+  kept_not i l t = sym (below_fails is_kept r.minima i l t)
 
 -- ---- values kept, from value s of a call on
 

@@ -1,101 +1,79 @@
-// The last 256 values that a search has taken, in an array that the caller lends: the check of
-// those that a caller hands in, and the values of a call kept. The value of place p lies in slot p
-// mod 256. Document 02, 2.7.
+// The last 256 values that a search has taken: the check of those that a caller hands in, and the
+// values of a call kept. The value of place p lies in slot p mod 256.
 #![tactic(auto)]
 
-ghost use Rattle.std.specs.Prelude.{◌≡◌, ◌+◌, ◌≤◌, ◌<◌};
-ghost use Rattle.lists.specs.Prelude.{pos, eq_z, length, get_or, take};
+ghost use Rattle.std.specs.Prelude.{◌≡◌, ◌+◌, ◌%◌, ◌≤◌, ◌<◌};
+ghost use Rattle.lists.specs.Prelude.{eq_z, set};
+ghost use Rattle.search_model.specs.Ring.{place_at, value_at};
 ghost use Rattle.search_model.specs.Recent.{kept_for, keeping, unfilled_from, kept_minima, good_recent};
-ghost use Rattle.open_minima.specs.Parts.{ring_at};
+ghost use Rattle.open_minima.specs.Parts.{ring_of};
 
-// Does slot i hold 0.
-fn is_zero(recent: &[i32; 256], i: usize) -> bool
-    requires { i < 256 }
-    ensures { result ≡ eq_z (get_or recent.now i (pos 0)) (pos 0) }
-{
-    recent[i] == 0
-}
+use open_minima::Search;
 
-// Do the slots that are not yet filled, once so many values are taken, hold 0.
-fn unfilled_are_zero(recent: &[i32; 256], taken: u32) -> bool
-    ensures { result ≡ unfilled_from taken recent.now }
+// Do the slots that are not yet filled hold 0.
+fn unfilled_are_zero(search: &Search) -> bool
+    ensures { result ≡ unfilled_from search.now.state.taken search.now.state.recent }
 {
-    let mut i = taken as usize;
-    while i < 256 {
-        if !is_zero(recent, i) {
+    for i in search.state.taken as usize..256 {
+        if search.state.recent[i] != 0 {
             return false;
         }
-        i += 1;
     }
     true
 }
 
-// Is the value in a slot of the open minima the one kept for the place.
-fn is_kept(heights: &[i32; 256], recent: &[i32; 256], slot: usize, place: u32) -> bool
-    requires { slot < 256 }
-    ensures { result ≡ eq_z (get_or heights.now slot (pos 0)) (kept_for recent.now place) }
+// Is the value of open minimum i the one kept for its place.
+fn is_kept(search: &Search, i: u32) -> bool
+    ensures { result
+        ≡ eq_z (value_at (ring_of search.now.state) i)
+        (kept_for search.now.state.recent (place_at (ring_of search.now.state) i)) }
 {
-    heights[slot] == recent[place as usize % 256]
+    let slot = search.slot(i);
+    let place = search.state.places[slot] as usize;
+    search.state.values[slot] == search.state.recent[place % 256]
 }
 
 // Has each open minimum the value kept for its place.
-fn minima_are_kept(
-    places: &[u32; 256],
-    heights: &[i32; 256],
-    recent: &[i32; 256],
-    first: u32,
-    minima: u32,
-) -> bool
-    requires { minima ≤ 256 }
-    ensures { result ≡ kept_minima (ring_at minima first places.now heights.now) recent.now }
+fn minima_are_kept(search: &Search) -> bool
+    ensures { result ≡ kept_minima (ring_of search.now.state) search.now.state.recent }
 {
-    let mut i: u32 = 0;
-    while i < minima {
-        let slot = open_minima::slot_of(first, i);
-        if !is_kept(heights, recent, slot, places[slot]) {
+    for i in 0..search.state.minima {
+        if !is_kept(search, i) {
             return false;
         }
-        i += 1;
     }
     true
 }
 
 // Are the values kept as a search leaves them: zeros where none is kept yet, and those of the open
 // minima.
-pub fn recent_are_good(
-    places: &[u32; 256],
-    heights: &[i32; 256],
-    recent: &[i32; 256],
-    first: u32,
-    minima: u32,
-    taken: u32,
-) -> bool
-    requires { minima ≤ 256 }
-    ensures { result ≡ good_recent taken (ring_at minima first places.now heights.now) recent.now }
+pub fn recent_are_good(search: &Search) -> bool
+    ensures { result ≡ good_recent search.now.state.taken (ring_of search.now.state) search.now.state.recent }
 {
-    if !unfilled_are_zero(recent, taken) {
-        return false;
-    }
-    minima_are_kept(places, heights, recent, first, minima)
+    unfilled_are_zero(search) && minima_are_kept(search)
 }
 
-// The first of the first n values of a call that is put: the last 256 of them fill all slots, so
-// those before them are left out.
+// The first of the n values of a call that is put: the last 256 of them fill all slots, so those
+// before them are left out.
 fn first_kept(n: usize) -> usize
     ensures { (result ≤ n) × (n ≤ result + 256) × (0 < result → n ≡ result + 256) }
 {
     if n > 256 { n - 256 } else { 0 }
 }
 
-// Keeps the first n values of a call, the first of them at place `taken`; those that 256 later ones
-// follow need not be put.
-pub fn keep_values(recent: &mut [i32; 256], taken: u32, values: &[i32], n: usize)
-    requires { n ≤ length values.now }
-    ensures { recent.new ≡ keeping taken recent.old (take n values.now) }
+// Keeps a value in the slot of its place.
+fn keep_value(search: &mut Search, place: usize, value: i32)
+    ensures { search.new.state ≡ record search.old.state { recent = set search.old.state.recent (place % 256) value } }
 {
-    let mut i = first_kept(n);
-    while i < n {
-        open_minima::store_value(recent, taken as usize + i, values, i);
-        i += 1;
+    search.state.recent[place % 256] = value;
+}
+
+// Keeps the values of a call, the first of them at place `start`; those that 256 later ones follow
+// need not be put.
+pub fn keep_values(search: &mut Search, start: u32, values: &[i32])
+    ensures { search.new.state ≡ record search.old.state { recent = keeping start search.old.state.recent values.now } }
+{
+    for i in first_kept(values.len())..values.len() {
+        keep_value(search, start as usize + i, values[i]);
     }
 }

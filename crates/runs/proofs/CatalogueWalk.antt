@@ -1,7 +1,7 @@
 -- The walk by calls is the walk from each list to its next one: a call over a realizable list with
 -- room for it is accepted, and tells exactly that.
 use Rattle.std.specs.Prelude.{◌≡◌, ◌∷◌, ◌++◌, ◌≤◌, ◌<◌}
-use Rattle.lists.proofs.Prelude.{◌∙◌, ap, sym, refl, subst, some-injective, none-ne-some, List, [], ℕ}
+use Rattle.lists.proofs.Prelude.{◌∙◌, ap, sym, refl, subst, same_Some, none-some, List, [], ℕ}
 use Rattle.lists.proofs.Prelude.{length, take, drop, replicate, length-replicate, take_at, arith}
 use Rattle.lists.proofs.Tests.{true-T}
 use Rattle.realization.specs.Realization.{Realizable, realizable}
@@ -30,10 +30,10 @@ module _ (lent : List ℕ → List ℕ) where
   -- and no others are
   met-Linked : (ds : List ℕ) (ls ms : List (List ℕ)) → Linked ds ls → Meets lent ds ms → ms ≡ ds ∷ ls
   met-Linked ds [] ms l (last t) = refl
-  met-Linked ds [] ms l (more {es = es} t w m) = absurd (none-ne-some es (sym l ∙ told_next ds (lent ds) es t w))
-  met-Linked ds (fs ∷ ls) ms l (last t) = absurd (none-ne-some fs (sym (told_last ds (lent ds) t) ∙ l.0))
+  met-Linked ds [] ms l (more {es = es} t w m) = absurd (none-some es (sym l ∙ told_next ds (lent ds) es t w))
+  met-Linked ds (fs ∷ ls) ms l (last t) = absurd (none-some fs (sym (told_last ds (lent ds) t) ∙ l.0))
   met-Linked ds (fs ∷ ls) ms l (more {es = es} {ls = ks} t w m) =
-      let e : es ≡ fs = some-injective es fs (sym (told_next ds (lent ds) es t w) ∙ l.0) in
+      let e : es ≡ fs = same_Some es fs (sym (told_next ds (lent ds) es t w) ∙ l.0) in
       ap (λ (x : List (List ℕ)). ds ∷ x) (met-Linked fs ls ks l.1 (subst (λ (x : List ℕ). Meets lent x ks) e m))
 
 -- THE THEOREM

@@ -1,7 +1,7 @@
 -- THE RUN THEOREM (demand 3). Each call keeps the state that of a search over the text taken so
 -- far, and is seen as the reference sees it; one induction over the list of calls gives the rest.
 use Rattle.std.specs.Prelude.{◌≡◌, ◌&&◌, ◌||◌, ◌∷◌, ◌++◌, ◌+◌, ◌*◌, ◌≤◌, ◌<◌, ◌⊎◌}
-use Rattle.lists.proofs.Prelude.{◌∙◌, ap, sym, refl, subst, ap₂, Bool, true, false, cond, not, none, some, List, [], map}
+use Rattle.lists.proofs.Prelude.{◌∙◌, ap, sym, refl, subst, ap₂, Bool, true, false, cond, not, None, Some, List, [], map}
 use Rattle.lists.proofs.Prelude.{append-nil}
 use Rattle.lists.proofs.Prelude.{append_assoc, flatten, ℕ, zero, suc, ℤ, T, eqb, leb, ltb, eqb-suc-zero, length, length-append, take, drop}
 use Rattle.lists.proofs.Prelude.{length-map, take_at, arith, ne_eqb, le-ltb, ltb-false, begins, select, tabulate, Memᴰ, Memᴰ-not-nil}
@@ -56,17 +56,17 @@ tell_called n c = (n, unless n (c.ended, c.taken, length c.hits, c.attempts) (0,
 -- what is seen of it, with these rises over its hits
 abbrev seen_by : PatternSet → ℕ → Called Position → List ℤ → Call → Seen
 seen_by ps n c vs k = record {
-  tells = cond (is_lent ps k) (some (tell_called n c)) none;
+  tells = cond (is_lent ps k) (Some (tell_called n c)) None;
   leaves = left_by n (hit_words c.hits) k.hits;
   rises = left_by n vs k.rises;
 }
 
 seen_lent : (ps : PatternSet) (n : ℕ) (c : Called Position) (vs : List ℤ) (k : Call) → is_lent ps k ≡ true
-    → seen_by ps n c vs k ≡ record { tells = some (tell_called n c); leaves = left_by n (hit_words c.hits) k.hits; rises = left_by n vs k.rises }
+    → seen_by ps n c vs k ≡ record { tells = Some (tell_called n c); leaves = left_by n (hit_words c.hits) k.hits; rises = left_by n vs k.rises }
 seen_lent ps n c vs k e = rw e refl
 
 seen_other : (ps : PatternSet) (n : ℕ) (c : Called Position) (vs : List ℤ) (k : Call) → is_lent ps k ≡ false
-    → seen_by ps (suc n) c vs k ≡ record { tells = none; leaves = k.hits; rises = k.rises }
+    → seen_by ps (suc n) c vs k ≡ record { tells = None; leaves = k.hits; rises = k.rises }
 seen_other ps n c vs k e = rw e refl
 
 -- the rises over the hits of a call
@@ -79,7 +79,7 @@ rises_by st k = rises_of (patterns_of k.set) st k.values (called_of st k)
 -- the values xs, on which the hits hs fall
 abbrev told_of : PatternSet → List ℤ → Call → ℕ → List ℤ → List (ℕ × ℕ) → Seen
 told_of ps text k n xs hs = record {
-  tells = some (n, (cond (eqb n 0 && eqb (length xs) (length k.values)) 1 0, length xs, length hs, attempts_on ps text xs));
+  tells = Some (n, (cond (eqb n 0 && eqb (length xs) (length k.values)) 1 0, length xs, length hs, attempts_on ps text xs));
   leaves = hit_words hs ++ drop (length (hit_words hs)) k.hits;
   rises = map (rise_in ps (text ++ xs)) hs ++ drop (length hs) k.rises;
 }
@@ -109,11 +109,11 @@ module _ (ps : PatternSet) (text : List ℤ) (k : Call) where
   added_accepted e f = rw (e, f) refl
 
   reference_refused : (n : ℕ) → is_lent ps k ≡ true → refusal_of ps text k ≡ suc n
-      → seen_of ps text k ≡ record { tells = some (suc n, (0, 0, 0, 0)); leaves = k.hits; rises = k.rises }
+      → seen_of ps text k ≡ record { tells = Some (suc n, (0, 0, 0, 0)); leaves = k.hits; rises = k.rises }
   unfolding attempts_on hit_words
   reference_refused n e f = reference_lent (suc n) [] [] e f (added_refused n e f) no_values ∙ (rw (eqb-suc-zero n) refl)
 
-  reference_other : is_lent ps k ≡ false → seen_of ps text k ≡ record { tells = none; leaves = k.hits; rises = k.rises }
+  reference_other : is_lent ps k ≡ false → seen_of ps text k ≡ record { tells = None; leaves = k.hits; rises = k.rises }
   unfolding seen_of hit_words
   reference_other e = rw (e, added_other e, no_values) refl
 
@@ -212,7 +212,7 @@ module _ (ps : PatternSet) (g : T (good_set ps)) (z : 0 < length ps) (many : hol
   one_other : (text : List ℤ) (st : SearchState) (k : Call) (n : ℕ) → Stands ps text st → length text ≤ 1048576 → is_lent ps k ≡ false
       → refusal_by st k ≡ suc n → OneCall ps text st k
   one_other text st k n r l e f =
-      one_by ps text st k (record { tells = none; leaves = k.hits; rises = k.rises }) text
+      one_by ps text st k (record { tells = None; leaves = k.hits; rises = k.rises }) text
       (ap (λ (m : ℕ). seen_by ps m (called_of st k) (rises_by st k) k) f ∙ seen_other ps n (called_of st k) (rises_by st k) k e)
       (reference_other ps text k e)
       (ap (λ (xs : List ℤ). text ++ xs) (added_other ps text k e) ∙ append-nil text)
@@ -225,7 +225,7 @@ module _ (ps : PatternSet) (g : T (good_set ps)) (z : 0 < length ps) (many : hol
       → refusal_of ps text k ≡ suc n → OneCall ps text st k
   one_refused text st k n r l e f =
       let m : refusal_by st k ≡ suc n = refusal_same text st k r l e ∙ f in
-      one_by ps text st k (record { tells = some (suc n, (0, 0, 0, 0)); leaves = k.hits; rises = k.rises }) text
+      one_by ps text st k (record { tells = Some (suc n, (0, 0, 0, 0)); leaves = k.hits; rises = k.rises }) text
       (ap (λ (i : ℕ). seen_by ps i (called_of st k) (rises_by st k) k) m ∙ seen_lent ps (suc n) (called_of st k) (rises_by st k) k e)
       (reference_refused ps text k n e f)
       (ap (λ (xs : List ℤ). text ++ xs) (added_refused ps text k n e f) ∙ append-nil text)
@@ -263,16 +263,16 @@ module _ (ps : PatternSet) (g : T (good_set ps)) (z : 0 < length ps) (many : hol
       ∙ ap (λ (d : Called Position). state_after st k.values d) c))
       (Stands-after ps g z text k.values vs st C r A.state (A.front ∙ ap (λ (m : ℕ). take m k.values) (sym A.taken))))
       (omega (arith, length-append text vs, A.within, within_limit ps text k f)) (omega (arith, length-append text vs))
-      (subst (λ (b : Bool). told_or0 (λ t. t.0) (cond b (some (tell_called 0 C)) none) ≡ 8 → ⊥) (sym e) (λ d. let w : ⊥ = omega arith in w))
-      (subst (λ (b : Bool). told_or0 (λ t. t.1.3) (cond b (some (tell_called 0 C)) none) + longest_head ps (text ++ vs) + 2 * length text
+      (subst (λ (b : Bool). told_or0 (λ t. t.0) (cond b (Some (tell_called 0 C)) None) ≡ 8 → ⊥) (sym e) (λ d. let w : ⊥ = omega arith in w))
+      (subst (λ (b : Bool). told_or0 (λ t. t.1.3) (cond b (Some (tell_called 0 C)) None) + longest_head ps (text ++ vs) + 2 * length text
       ≤ longest_head ps text + 2 * length (text ++ vs)) (sym e) (omega (arith, A.bound, length-append text vs)))
       (subst (λ (b : Bool). hit_words (hits ps (text ++ vs)) ≡ hit_words (hits ps text)
-      ++ take (2 * told_or0 (λ t. t.1.2) (cond b (some (tell_called 0 C)) none)) (left_by 0 (hit_words C.hits) k.hits)) (sym e)
+      ++ take (2 * told_or0 (λ t. t.1.2) (cond b (Some (tell_called 0 C)) None)) (left_by 0 (hit_words C.hits) k.hits)) (sym e)
       (ap hit_words A.more ∙ hit_words-append (hits ps text) C.hits
       ∙ ap (λ (v : List ℕ). hit_words (hits ps text) ++ v)
       (sym (take_at (hit_words C.hits) (drop (length (hit_words C.hits)) k.hits) (2 * length C.hits) (length-hit_words C.hits)))))
       (subst (λ (b : Bool). map (rise_in ps (text ++ vs)) (hits ps (text ++ vs)) ≡ map (rise_in ps text) (hits ps text)
-      ++ take (told_or0 (λ t. t.1.2) (cond b (some (tell_called 0 C)) none)) (left_by 0 up k.rises)) (sym e)
+      ++ take (told_or0 (λ t. t.1.2) (cond b (Some (tell_called 0 C)) None)) (left_by 0 up k.rises)) (sym e)
       (rises_more text vs C.hits A.more
       ∙ ap (λ (v : List ℤ). map (rise_in ps text) (hits ps text) ++ v)
       (sym (take_at up (drop (length up) k.rises) (length C.hits) (length-map C.hits (rise_in ps (text ++ vs)))))))
@@ -290,14 +290,14 @@ module _ (ps : PatternSet) (g : T (good_set ps)) (z : 0 < length ps) (many : hol
 
       same_seen : (text : List ℤ) (c : Called Position) (vs : List ℤ) (k : Call) → Agrees ps text k.values c vs
           → ◌≡◌ {A = Seen} (record {
-            tells = some (0, (c.ended, c.taken, length c.hits, c.attempts));
+            tells = Some (0, (c.ended, c.taken, length c.hits, c.attempts));
             leaves = hit_words c.hits ++ drop (length (hit_words c.hits)) k.hits;
             rises = map (rise_in ps (text ++ vs)) c.hits ++ drop (length (map (rise_in ps (text ++ vs)) c.hits)) k.rises;
           })
           (told_of ps text k 0 vs c.hits)
       same_seen text c vs k a =
           λ i. record {
-            tells = some (0, (a.ended i, a.taken i, length c.hits, a.attempts i));
+            tells = Some (0, (a.ended i, a.taken i, length c.hits, a.attempts i));
             leaves = hit_words c.hits ++ drop (length (hit_words c.hits)) k.hits;
             rises = map (rise_in ps (text ++ vs)) c.hits ++ drop (length-map c.hits (rise_in ps (text ++ vs)) i) k.rises;
           }

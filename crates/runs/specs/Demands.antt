@@ -2,7 +2,7 @@
 -- `entries`, and these are statements about them. docs/DEMANDS.md leads from each sentence of a
 -- demand to the field that states it. The proofs are in proofs/Demands.antt and proofs/Run.antt.
 use Rattle.std.specs.Prelude.{◌≡◌, ◌⊎◌, ◌↔◌, ◌∷◌, ◌++◌, ◌+◌, ◌*◌, ◌≤◌, ◌<◌}
-use Rattle.lists.specs.Prelude.{false, cond, Option, none, some, List, [], Memᴰ, map, ℕ, T, ℤ, pos, length}
+use Rattle.lists.specs.Prelude.{false, cond, Option, None, Some, List, [], Memᴰ, map, ℕ, T, ℤ, pos, length}
 use Rattle.lists.specs.Prelude.{get_or, take, drop, tabulate, last_of, begins}
 use Rattle.answers.specs.declared.SearchState.{SearchState}
 use Rattle.answers.specs.Told.{new_search}
@@ -64,7 +64,7 @@ second_of st c = stream_rises c.set c.automaton st c.values c.hits c.rises
 -- of a call that is lent another set only that it is refused is seen
 abbrev pub observe_call : PatternSet → SearchState → Call → Seen
 observe_call ps st c =
-    let tells : Option (ℕ × Counts) = cond (is_lent ps c) (some (told (0, 0, 0, 0) (entry_of st c))) none in
+    let tells : Option (ℕ × Counts) = cond (is_lent ps c) (Some (told (0, 0, 0, 0) (entry_of st c))) None in
     record { tells = tells; leaves = after (entry_of st c) c.hits; rises = after (second_of st c) c.rises }
 
 abbrev pub next_state : SearchState → Call → SearchState
@@ -88,8 +88,8 @@ Admitted ps st (c ∷ cs) = (is_lent ps c ≡ false → 0 < first_met (entry_of 
 
 -- a number that was told; 0 where nothing was
 abbrev pub told_or0 : (ℕ × Counts → ℕ) → Option (ℕ × Counts) → ℕ
-told_or0 f none = 0
-told_or0 f (some t) = f t
+told_or0 f None = 0
+told_or0 f (Some t) = f t
 
 -- the words that the calls wrote, one after the other
 unfoldable pub written : List Seen → List ℕ

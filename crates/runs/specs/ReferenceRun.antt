@@ -3,7 +3,7 @@
 -- words stand in refusal 7 and nowhere else. Document 01: A run of ladder searches; Run book;
 -- Trials. Document 02, 2.2 and 2.7.
 use Rattle.std.specs.Prelude.{◌&&◌, ◌||◌, ◌∷◌, ◌++◌, ◌+◌, ◌-◌, ◌*◌, ◌%◌}
-use Rattle.lists.specs.Prelude.{Bool, cond, not, Option, none, some, List, [], map, ℕ, suc, pred, eqb, leb, ltb}
+use Rattle.lists.specs.Prelude.{Bool, cond, not, Option, None, Some, List, [], map, ℕ, suc, pred, eqb, leb, ltb}
 use Rattle.lists.specs.Prelude.{ℤ, pos, le_z}
 use Rattle.lists.specs.Prelude.{length, get_or, drop, tabulate, last_below, last_of, all, select, begins}
 use Rattle.gaps.specs.Gaps.{is_gap, holds_gap}
@@ -86,7 +86,7 @@ seen_of ps text c =
     let xs = added ps text c in
     let hs = hits_on ps text xs in
     let ended : ℕ = cond (eqb n 0 && eqb (length xs) (length c.values)) 1 0 in
-    let told : Option (ℕ × (ℕ × ℕ × ℕ × ℕ)) = cond (is_lent ps c) (some (n, (ended, length xs, length hs, attempts_on ps text xs))) none in
+    let told : Option (ℕ × (ℕ × ℕ × ℕ × ℕ)) = cond (is_lent ps c) (Some (n, (ended, length xs, length hs, attempts_on ps text xs))) None in
     let array = hit_words hs ++ drop (length (hit_words hs)) c.hits in
     record { tells = told; leaves = array; rises = map (rise_in ps (text ++ xs)) hs ++ drop (length hs) c.rises }
 

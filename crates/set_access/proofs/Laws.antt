@@ -1,7 +1,7 @@
 -- What is known of a set array that is good: it begins with the words of its patterns, so that each
 -- pattern lies between two of the offsets, and each pattern is good.
 use Rattle.std.specs.Prelude.{◌≡◌, ◌++◌, ◌+◌, ◌-◌, ◌≤◌, ◌<◌}
-use Rattle.lists.proofs.Prelude.{◌∙◌, ap, sym, ap₂, List, [], flatten, ℕ, suc, T, length, get_or, take, drop, length-append}
+use Rattle.lists.proofs.Prelude.{◌∙◌, ap, sym, refl, ap₂, List, [], flatten, ℕ, suc, T, length, get_or, take, drop, length-append}
 use Rattle.lists.proofs.Prelude.{get_or-eq_default, get_or-take, get_or-drop, add-one, dec_lt, arith}
 use Rattle.lists.proofs.Members.{get_or-mem, all-mem}
 use Rattle.lists.proofs.Rows.{length-flatten-suc, length-flatten-take}
@@ -12,7 +12,8 @@ use Rattle.cartesian.proofs.Seek.{get_or-distances, distance_le}
 use Rattle.realization.specs.Realization.{realizable, least_realization}
 use Rattle.realization.proofs.LeastRealization.{least_distances, length_least}
 use Rattle.pattern_set.specs.PatternSet.{PatternSet, set_words, good_pattern, pattern_in, patterns_in, patterns_of, IsSet}
-use Rattle.pattern_set.proofs.Words.{length-set_words, patterns_in_words, words_count, words_offset}
+use Rattle.set_access.specs.Holds.{Holds}
+use Rattle.pattern_set.proofs.Words.{length-set_words, patterns_in_words, words_count, words_offset, words_one}
 use Rattle.pattern_set.proofs.IsSet.{set_good, set_begins}
 use Rattle.pattern_set.proofs.Good.{good_pattern_parts, good_set_parts}
 
@@ -77,6 +78,9 @@ module _ (ws : List ℕ) (good : IsSet ws) where
   pub word_count : get_or ws 0 0 ≡ length (patterns_of ws)
   word_count = let r = words_and_rest in ap (λ (l : List ℕ). get_or l 0 0) r.1 ∙ words_count (patterns_of ws) r.0
 
+  pub word_total : get_or ws 1 0 ≡ length (flatten (patterns_of ws))
+  word_total = let r = words_and_rest in ap (λ (l : List ℕ). get_or l 1 0) r.1 ∙ words_one (patterns_of ws) r.0
+
   pub word_offset : (j : ℕ) → j ≤ length (patterns_of ws) → get_or ws (2 + j) 0 ≡ length (flatten (take j (patterns_of ws)))
   word_offset j h = let r = words_and_rest in ap (λ (l : List ℕ). get_or l (2 + j) 0) r.1 ∙ words_offset (patterns_of ws) r.0 j h
 
@@ -131,3 +135,19 @@ module _ (ws : List ℕ) (good : IsSet ws) where
 
   pub pattern_realizable : (j : ℕ) → j < length (patterns_of ws) → T (realizable (get_or (patterns_of ws) j []))
   pattern_realizable j h = (good_pattern_parts (get_or (patterns_of ws) j []) (good_pattern_lem j h)).2
+
+-- all that a view of the patterns rests on
+pub holds : (ws : List ℕ) → IsSet ws → Holds ws (patterns_of ws)
+holds ws good = record {
+  good = good;
+  few = count_le ws good;
+  small = total_le ws good;
+  fits = set_fits ws good;
+  count = word_count ws good;
+  total = word_total ws good;
+  offset = word_offset ws good;
+  within = offset_le ws good;
+  rises = λ j h. omega (arith, offset_next ws good j h, ap (λ n. length (flatten (take n (patterns_of ws)))) (add-one j));
+  part = λ j h. pattern_between ws good j _ _ h refl refl;
+  each = good_pattern_lem ws good;
+}

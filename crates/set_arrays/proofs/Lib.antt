@@ -1,5 +1,3 @@
 -- The root of the crate's laws.
 pub mod SetRules
 pub mod Appending
-pub mod Laws
-pub mod Entries

@@ -1,18 +1,14 @@
 -- A set array as a pattern is added to it in place.
 use Rattle.std.specs.Prelude.{◌++◌, ◌+◌}
-use Rattle.lists.specs.Prelude.{List, ℕ, length, take, drop, set}
-
--- the n words from `at` on stand one word further up; word `at` is as it was
-unfoldable pub moved_up : ℕ → ℕ → List ℕ → List ℕ
-moved_up at n ws = take (at + 1) ws ++ (take n (drop at ws) ++ drop (at + n + 1) ws)
+use Rattle.std.specs.List.{copy_within}
+use Rattle.lists.specs.Prelude.{List, ℕ, length, drop, set}
+use Rattle.pattern_set.specs.PatternSet.{PatternSet, set_words}
 
 -- a set of k patterns and n distances is to hold one pattern of m distances more: room for them,
 -- with the counts and the new offset
-unfoldable pub with_room : ℕ → ℕ → ℕ → List ℕ → List ℕ
-with_room k n m ws = set (set (set (moved_up (3 + k) n ws) (3 + k) (n + m)) 0 (k + 1)) 1 (n + m)
+abbrev pub with_room : ℕ → ℕ → ℕ → List ℕ → List ℕ
+with_room k n m ws = set (set (set (copy_within ws (3 + k) (3 + k + n) (3 + k + 1)) (3 + k) (n + m)) 0 (k + 1)) 1 (n + m)
 
--- and the new pattern's distances in that room
-unfoldable pub appended : ℕ → ℕ → List ℕ → List ℕ → List ℕ
-appended k n ds ws =
-    let room = with_room k n (length ds) ws in
-    take (4 + k + n) room ++ (ds ++ drop (4 + k + n + length ds) room)
+-- the array with the words of the set at its front
+abbrev pub with_set : PatternSet → List ℕ → List ℕ
+with_set ps ws = set_words ps ++ drop (length (set_words ps)) ws

@@ -2,82 +2,93 @@
 // a pattern.
 #![tactic(auto)]
 
-ghost use Rattle.std.specs.Prelude.{◌≡◌, ◌||◌, ◌+◌, ◌≤◌};
-ghost use Rattle.lists.specs.Prelude.{leb, ltb};
-ghost use Rattle.answers.specs.Told.{told_written, told_size};
+ghost use Rattle.std.specs.Prelude.{◌≡◌, ◌||◌, ◌∷◌, ◌+◌, ◌≤◌, ◌<◌};
+ghost use Rattle.lists.specs.Prelude.{[], eqb, leb, ltb, length};
+ghost use Rattle.gaps.specs.Gaps.{holds_gap};
+ghost use Rattle.answers.specs.Told.{told_number, told_size};
+ghost use Rattle.entries.specs.Checks.{Checks};
 ghost use Rattle.entries.specs.Entries.{told, after, empty_set_entry, check_entry, add_entry};
 
-use answers::{Refusal, SetSize, Written};
+use answers::{Refusal, SetSize};
 
 mod room;
 pub mod rules;
 
 // Writes the empty set.
-pub fn empty_set(out: &mut [u32]) -> Written
-    ensures result_value { told_written result ≡ told 0 (empty_set_entry out.old) }
+pub fn empty_set(out: &mut [u32]) -> Result<usize, Refusal>
+    ensures result_value { told_number result ≡ told 0 (empty_set_entry out.old) }
     ensures out_after { out.new ≡ after (empty_set_entry out.old) out.old }
 {
     if out.len() < 3 {
-        return Written::Refused(Refusal::ArrayTooShort);
+        return Err(Refusal::ArrayTooShort);
     }
-    out[0] = 0;
-    out[1] = 0;
-    out[2] = 0;
-    Written::Words(3)
+    out[..3].copy_from_slice(&[0, 0, 0]);
+    Ok(3)
 }
 
 // The patterns and the distances of the set with whose words the array begins.
-pub fn check_set(words: &[u32]) -> SetSize
+pub fn check_set(words: &[u32]) -> Result<SetSize, Refusal>
     ensures { told_size result ≡ told (0, 0) (check_entry words.now) }
 {
-    if !rules::is_set(words) {
-        return SetSize::Refused(Refusal::BrokenSet);
-    }
-    SetSize::Holds(casts::wide(words[0]), casts::wide(words[1]))
+    let set = rules::check_patterns(words)?;
+    Ok(SetSize {
+        patterns: set.len(),
+        distances: set.total(),
+    })
 }
 
-// Whether a set of k patterns and n distances has no room for a pattern of m values.
-fn is_full(k: usize, n: usize, m: usize) -> bool
-    requires { (n ≤ 4096) × (m ≤ 256) }
-    ensures { result ≡ leb 64 k || ltb 4096 (n + m) }
+// Whether values make a pattern.
+fn check_values(values: &[i32]) -> Result<(), Refusal>
+    ensures { Checks ((1, eqb (length values.now) 0) ∷ (2, ltb 256 (length values.now)) ∷ (13, holds_gap values.now) ∷ []) (λ _. length values.now ≤ 256)
+        result }
 {
-    if k >= 64 {
-        return true;
+    let m = values.len();
+    if m == 0 {
+        return Err(Refusal::Empty);
     }
-    n + m > 4096
+    if m > 256 {
+        return Err(Refusal::TooLong);
+    }
+    if gaps::hold_gap(values) {
+        return Err(Refusal::HoldsGap);
+    }
+    Ok(())
+}
+
+// Whether a set of k patterns and n distances, in an array of so many words, has room for a pattern
+// of m values.
+fn check_room(k: usize, n: usize, m: usize, words: usize) -> Result<(), Refusal>
+    requires { (n ≤ 4096) × (m ≤ 256) }
+    ensures { Checks ((6, leb 64 k || ltb 4096 (n + m)) ∷ (15, eqb m 1) ∷ (10, ltb words (4 + k + (n + m))) ∷ [])
+        (λ _. (k < 64) × (n + m ≤ 4096) × (4 + k + n + m ≤ words)) result }
+{
+    if k >= 64 || n + m > 4096 {
+        return Err(Refusal::SetFull);
+    }
+    if m == 1 {
+        return Err(Refusal::OneValue);
+    }
+    if words < 4 + k + n + m {
+        return Err(Refusal::ArrayTooShort);
+    }
+    Ok(())
 }
 
 // Adds a pattern, given as values, to the set with whose words the array begins: it becomes the
 // last one. Refuses 1 2 13 5 6 15 10.
-pub fn add_pattern(words: &mut [u32], values: &[i32]) -> SetSize
+pub fn add_pattern(words: &mut [u32], values: &[i32]) -> Result<SetSize, Refusal>
     ensures result_value { told_size result ≡ told (0, 0) (add_entry words.old values.now) }
     ensures words_after { words.new ≡ after (add_entry words.old values.now) words.old }
 {
     let m = values.len();
-    if m == 0 {
-        return SetSize::Refused(Refusal::Empty);
-    }
-    if m > 256 {
-        return SetSize::Refused(Refusal::TooLong);
-    }
-    if gaps::hold_gap(values) {
-        return SetSize::Refused(Refusal::HoldsGap);
-    }
-    if !rules::is_set(words) {
-        return SetSize::Refused(Refusal::BrokenSet);
-    }
-    let k = casts::wide(words[0]);
-    let n = casts::wide(words[1]);
-    let full = is_full(k, n, m);
-    if full {
-        return SetSize::Refused(Refusal::SetFull);
-    }
-    if m == 1 {
-        return SetSize::Refused(Refusal::OneValue);
-    }
-    if words.len() < 4 + k + n + m {
-        return SetSize::Refused(Refusal::ArrayTooShort);
-    }
+    check_values(values)?;
+    let set = rules::check_patterns(words)?;
+    let k = set.len();
+    let n = set.total();
+    check_room(k, n, m, words.len())?;
     room::append(words, values, k, n);
-    SetSize::Holds(k + 1, n + m)
+    Ok(SetSize {
+        patterns: k + 1,
+        distances: n + m,
+    })
 }

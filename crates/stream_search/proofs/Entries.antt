@@ -1,8 +1,7 @@
 -- THE ANSWER of a stream search, for each way through the entry: the first refusal that is met, and
 -- else what the call does.
-use Rattle.std.specs.Prelude.{◌≡◌, ◌||◌, ◌++◌, ◌+◌, ◌*◌, ◌≤◌, ◌<◌}
-use Rattle.lists.proofs.Prelude.{◌∙◌, ap, sym, refl, Bool, true, false, cond, List, ℕ, ℤ, leb, ltb, length}
-use Rattle.lists.proofs.Prelude.{drop, length-map, lt-ltb, le-ltb}
+use Rattle.std.specs.Prelude.{◌≡◌, ◌++◌}
+use Rattle.lists.proofs.Prelude.{◌∙◌, ap, sym, refl, subst, cond, List, ℕ, ℤ, leb, length, drop, length-map}
 use Rattle.answers.specs.declared.Counts.{Counts as Counted}
 use Rattle.answers.specs.declared.Refusal.{Refusal}
 use Rattle.answers.specs.declared.SearchState.{SearchState}
@@ -12,13 +11,13 @@ use Rattle.pattern_set.specs.PatternSet.{PatternSet, patterns_of}
 use Rattle.matching.specs.Matching.{hit_words}
 use Rattle.matching.specs.Rise.{rise}
 use Rattle.search_model.specs.Recent.{found_at}
-use Rattle.entries.specs.Entries.{Conditions, Counts, Entry, first_met, unless, told, after, search_conditions, is_short, stream_conditions, stream_call}
+use Rattle.entries.specs.Entries.{Conditions, Counts, Entry, first_met, unless, told, after, search_conditions, stream_conditions, stream_call}
 use Rattle.entries.specs.Entries.{stream_entry, stream_rises, stream_state}
-use Rattle.search_model.specs.Search.{Position, good_state, Called, state_after, rises_of}
+use Rattle.search_model.specs.Search.{Position, position_of, Called, call, state_after, rises_of}
 use Rattle.entries.proofs.Refusals as refusals
 use Rattle.entries.proofs.Searchable.{search_accepted}
-use Rattle.entries.proofs.Stream.{from_eight}
-use Rattle.stream_call.specs.Taken.{IsLeft, state_of}
+use Rattle.stream_call.specs.Taken.{IsDone}
+use Rattle.stream_search.specs.Conditions.{call_conditions}
 use Rattle.matching.proofs.HitWords.{length-hit_words}
 
 module _ (ws automaton : List ℕ) (st : SearchState) (xs : List ℤ) (out : List ℕ) (rises : List ℤ) where
@@ -53,7 +52,7 @@ module _ (ws automaton : List ℕ) (st : SearchState) (xs : List ℤ) (out : Lis
       (a.0, sym (ap (λ (n : ℕ). unless n next st) e ∙ refusals.unless_refused r next st), a.1, b.1)
 
   abbrev behind : Conditions
-  behind = from_eight ws automaton st xs out rises
+  behind = call_conditions ps st xs out rises
 
   whole : refusal ≡ first_met (search_conditions ws automaton ++ behind)
   unfolding stream_conditions
@@ -67,27 +66,19 @@ module _ (ws automaton : List ℕ) (st : SearchState) (xs : List ℤ) (out : Lis
     checked : refusal ≡ first_met behind
     checked = whole ∙ search_accepted ws automaton behind k
 
-    pub state_bad : good_state ps st ≡ false → Answers (8, (0, 0, 0, 0)) st out rises
-    state_bad g = refused Refusal.BrokenState (checked ∙ (rw g refl))
-
-    pub too_long : good_state ps st ≡ true → 1048576 < st.taken + length xs → Answers (9, (0, 0, 0, 0)) st out rises
-    too_long g l = refused Refusal.TextTooLong (checked ∙ (rw (g, lt-ltb 1048576 (st.taken + length xs) l) refl))
-
-    -- is an array too short
-    abbrev pub short : Bool
-    short = ltb (length out) (2 * length ps) || is_short out rises
-
-    pub too_short : good_state ps st ≡ true → st.taken + length xs ≤ 1048576 → short ≡ true → Answers (10, (0, 0, 0, 0)) st out rises
-    too_short g l h = refused Refusal.ArrayTooShort (checked ∙ (rw (g, le-ltb 1048576 (st.taken + length xs) l, h) refl))
+    -- the state, the values or the arrays are, of a view over the words ws'
+    pub declined : (ws' : List ℕ) → ws' ≡ ws → (r : Refusal) → first_met (call_conditions (patterns_of ws') st xs out rises) ≡ number r
+        → Answers (number r, (0, 0, 0, 0)) st out rises
+    declined ws' v r e = refused r (checked ∙ subst (λ (w : List ℕ). first_met (call_conditions (patterns_of w) st xs out rises) ≡ number r) v e)
 
     -- ---- accepted
 
-    pub answered : good_state ps st ≡ true → st.taken + length xs ≤ 1048576 → short ≡ false
-        → (hits : List ℕ) (risen : List ℤ) (made : SearchState) (c : Counted) (answer : ℕ × Counts) → IsLeft ps st xs out hits rises risen made c
+    answered : first_met behind ≡ 0 → (hits : List ℕ) (risen : List ℤ) (made : SearchState) (c : Counted) (answer : ℕ × Counts)
+        → made ≡ state_after st xs called → IsDone ps (found_at st.taken st.recent xs) xs called out hits rises risen c
         → answer ≡ (0, (cond (leb (length xs) c.taken) 1 0, c.taken, c.hits, c.attempts))
         → Answers answer made hits risen
-    answered g l h hits risen made c answer t e =
-        let n : refusal ≡ 0 = checked ∙ (rw (g, le-ltb 1048576 (st.taken + length xs) l, h) refl) in
+    answered h hits risen made c answer s t e =
+        let n : refusal ≡ 0 = checked ∙ h in
         let q : ◌≡◌ {A = Counts} (cond (leb (length xs) c.taken) 1 0, c.taken, c.hits, c.attempts) entry.counts =
         λ i. (sym t.ended i, t.taken i, t.hits i, t.attempts i) in
         let w = t.words ∙ ap (λ (m : ℕ). hit_words called.hits ++ drop m out) (sym (length-hit_words called.hits)) in
@@ -95,13 +86,19 @@ module _ (ws automaton : List ℕ) (st : SearchState) (xs : List ℤ) (out : Lis
         let vs = rises_of ps st xs called in
         let u = t.rises ∙ ap (λ (m : ℕ). vs ++ drop m rises) (sym (length-map called.hits (rise ps (found_at st.taken st.recent xs)))) in (
           e ∙ a.0,
-          t.state ∙ sym (ap (λ (m : ℕ). unless m (state_after st xs called) st) n),
+          s ∙ sym (ap (λ (m : ℕ). unless m (state_after st xs called) st) n),
           a.1,
           u ∙ refusals.left_accepted (0, 0, 0, 0) second rises n,
         )
 
--- the same numbers make the same state
-pub same_state : {t u n m k l f g : ℕ} (places : List ℕ) (values recent : List ℤ) → (t ≡ u) × (n ≡ m) × (k ≡ l) × (f ≡ g)
-    → state_of t n k f places values recent ≡ state_of u m l g places values recent
-same_state places values recent e =
-    λ i. record { taken = e.0 i; node = e.1 i; minima = e.2 i; first = e.3 i; places = places; values = values; recent = recent }
+    pub answers : (ws' : List ℕ) → ws' ≡ ws → first_met (call_conditions (patterns_of ws') st xs out rises) ≡ 0
+        → (hits : List ℕ) (risen : List ℤ) (made : SearchState) (c : Counted) (answer : ℕ × Counts)
+        → made ≡ state_after st xs (call (patterns_of ws') (position_of st) (length out) xs)
+        → IsDone (patterns_of ws') (found_at st.taken st.recent xs) xs (call (patterns_of ws') (position_of st) (length out) xs) out hits rises risen c
+        → answer ≡ (0, (cond (leb (length xs) c.taken) 1 0, c.taken, c.hits, c.attempts))
+        → Answers answer made hits risen
+    answers ws' v h hits risen made c answer s t e =
+        answered (subst (λ (w : List ℕ). first_met (call_conditions (patterns_of w) st xs out rises) ≡ 0) v h) hits risen made c answer
+        (subst (λ (w : List ℕ). made ≡ state_after st xs (call (patterns_of w) (position_of st) (length out) xs)) v s)
+        (subst (λ (w : List ℕ). IsDone (patterns_of w) (found_at st.taken st.recent xs) xs (call (patterns_of w) (position_of st) (length out) xs)
+        out hits rises risen c) v t) e

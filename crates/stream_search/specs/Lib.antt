@@ -1,1 +1,2 @@
 -- The root of the crate's definitions.
+pub mod Conditions

@@ -1,13 +1,14 @@
-// What came of a case, held against what was expected: the first thing that differs.
-ghost use Rattle.std.specs.Prelude.{◌<ℤ◌, ◌≡◌};
-ghost use Rattle.lists.specs.Prelude.{pos};
-ghost use Rattle.test_differences.specs.Difference.{is_nothing, first_of, compared, bit, lifted, compared_value, differ_at, compared_words};
-ghost use Rattle.test_differences.specs.Difference.{compared_held, compared_front};
+// What came of a case, held against what was expected: the first thing that differs, or none.
+ghost use Rattle.std.specs.Prelude.{◌≡◌};
+ghost use Rattle.lists.specs.Prelude.{ℤ, pos, drop};
+ghost use Rattle.test_differences.specs.Difference.{bit, differs, compared, compared_items, compared_held, compared_front, compared_words};
+ghost use Rattle.test_inputs.specs.Arrays.{before};
 
+use std::fmt;
 use test_inputs::arrays;
 
 // The things that are compared.
-#[derive(Clone, Copy)]
+#[derive(Clone, Copy, Debug, PartialEq, Eq)]
 pub enum Part {
     // of an answer
     Refusal,
@@ -51,171 +52,228 @@ pub enum Part {
     Read,
 }
 
-// Nothing differs, or what does, what was expected and what came. Of arrays and texts the place is
-// known, too; a value of an array stands there lifted.
-#[derive(Clone, Copy)]
-pub enum Difference {
-    Nothing,
-    Differs {
-        part: Part,
-        place: usize,
-        expected: u64,
-        got: u64,
-    },
-}
-
-// How far a value is lifted, so that none is below zero.
-pub const LIFT: u64 = 2147483648;
-
-// A value below zero, lifted.
-fn lift_below_zero(x: i32) -> u64
-    requires { x <ℤ pos 0 }
-    ensures { result ≡ lifted x }
-{
-    2147483647 - (-1 - x) as u64
-}
-
-// A value, lifted.
-pub fn lift(x: i32) -> u64
-    ensures { result ≡ lifted x }
-{
-    if x < 0 {
-        return lift_below_zero(x);
-    }
-    x as u64 + LIFT
-}
-
-// Nothing differs.
-pub fn none() -> Difference
-    ensures { result ≡ Difference.Nothing }
-{
-    Difference::Nothing
-}
-
-// Whether nothing differs.
-pub fn is_none(d: Difference) -> bool
-    ensures { result ≡ is_nothing d }
-{
-    match d {
-        Difference::Nothing => true,
-        _ => false,
+// What differs, in words. Of arrays, texts and slots the place follows.
+impl fmt::Display for Part {
+    fn fmt<W: fmt::Write>(&self, f: &mut fmt::Formatter<W>) -> fmt::Result {
+        match self {
+            Part::Refusal => write!(f, "refusal"),
+            Part::Written => write!(f, "words written"),
+            Part::Code => write!(f, "code"),
+            Part::Patterns => write!(f, "patterns"),
+            Part::Distances => write!(f, "distances"),
+            Part::Nodes => write!(f, "nodes"),
+            Part::AutomatonWords => write!(f, "words of the automaton"),
+            Part::Hits => write!(f, "hits"),
+            Part::Candidates => write!(f, "candidates"),
+            Part::Attempts => write!(f, "attempts"),
+            Part::Taken => write!(f, "values taken"),
+            Part::Ended => write!(f, "whether the values ended"),
+            Part::Node => write!(f, "node of the state"),
+            Part::Depth => write!(f, "depth of the state's node"),
+            Part::LastDistance => write!(f, "last distance of the state's node"),
+            Part::Minima => write!(f, "open minima of the state"),
+            Part::FirstSlot => write!(f, "first slot of the state"),
+            Part::SlotPlace => write!(f, "place of open minimum "),
+            Part::Word => write!(f, "word "),
+            Part::Value => write!(f, "value "),
+            Part::Byte => write!(f, "byte "),
+            Part::BadInput => write!(f, "whether the input is bad"),
+            Part::TextValues => write!(f, "values of the text"),
+            Part::Printed => write!(f, "bytes printed"),
+            Part::AtLeast => write!(f, "nodes, at least"),
+            Part::Needed => write!(f, "words needed, up to the first that is not"),
+            Part::Room => write!(f, "whether the array has room for the list"),
+            Part::Last => write!(f, "whether the list is the last one"),
+            Part::Lists => write!(f, "lists of the length"),
+            Part::Found => write!(f, "whether there is a hit"),
+            Part::LastPlace => write!(f, "last place"),
+            Part::Pattern => write!(f, "pattern number"),
+            Part::Read => write!(f, "values read"),
+        }
     }
 }
 
-// The first of two, or the second where in the first nothing differs.
-pub fn first(a: Difference, b: Difference) -> Difference
-    ensures { result ≡ first_of a b }
-{
-    match a {
-        Difference::Nothing => b,
-        _ => a,
+// What differs, what was expected and what came. Of arrays, texts and slots the place is known,
+// too.
+#[derive(Clone, Copy, Debug, PartialEq, Eq)]
+pub struct Difference {
+    pub part: Part,
+    pub place: usize,
+    pub expected: i128,
+    pub got: i128,
+}
+
+impl fmt::Display for Difference {
+    fn fmt<W: fmt::Write>(&self, f: &mut fmt::Formatter<W>) -> fmt::Result {
+        let part = self.part;
+        let expected = self.expected;
+        let got = self.got;
+        match part {
+            Part::Word | Part::Value | Part::Byte | Part::SlotPlace => {
+                let place = self.place;
+                write!(f, "{part}{place}: expected {expected}, got {got}")
+            },
+            _ => write!(f, "{part}: expected {expected}, got {got}"),
+        }
     }
 }
 
-// A number at a place, held against the one expected.
-pub fn expect_at(part: Part, place: usize, expected: u64, got: u64) -> Difference
-    ensures { result ≡ compared part place expected got }
-{
-    if expected == got {
-        return Difference::Nothing;
+// A number of an answer, a state or an array; of a truth, 1 is true.
+pub trait Number: Copy {
+    ghost value: { Self → ℤ };
+
+    fn wide(self) -> i128
+        ensures { result ≡ value self };
+}
+
+impl Number for u8 {
+    ghost value = { pos };
+
+    fn wide(self) -> i128 {
+        self as i128
     }
-    Difference::Differs {
+}
+
+impl Number for u32 {
+    ghost value = { pos };
+
+    fn wide(self) -> i128 {
+        self as i128
+    }
+}
+
+impl Number for u64 {
+    ghost value = { pos };
+
+    fn wide(self) -> i128 {
+        self as i128
+    }
+}
+
+impl Number for usize {
+    ghost value = { pos };
+
+    fn wide(self) -> i128 {
+        self as i128
+    }
+}
+
+impl Number for i32 {
+    ghost value = { λ x. x };
+
+    fn wide(self) -> i128 {
+        self as i128
+    }
+}
+
+impl Number for bool {
+    ghost value = { λ x. pos (bit x) };
+
+    fn wide(self) -> i128 {
+        self as i128
+    }
+}
+
+// A number at a place differs.
+fn differ(part: Part, place: usize, expected: i128, got: i128) -> Option<Difference>
+    ensures { result ≡ differs part place expected got }
+{
+    Some(Difference {
         part,
         place,
         expected,
         got,
+    })
+}
+
+// A number at a place, held against the one expected.
+fn compare(part: Part, place: usize, expected: i128, got: i128) -> Option<Difference>
+    ensures { result ≡ compared part place expected got }
+{
+    if expected == got {
+        return None;
     }
+    differ(part, place, expected, got)
+}
+
+// A number at a place, held against the one expected.
+pub fn expect_at<T: Number>(part: Part, place: usize, expected: T, got: T) -> Option<Difference>
+    ensures { result ≡ compared part place (T.value expected) (T.value got) }
+{
+    compare(part, place, expected.wide(), got.wide())
 }
 
 // A number, held against the one expected.
-pub fn expect(part: Part, expected: u64, got: u64) -> Difference
-    ensures { result ≡ compared part 0 expected got }
+pub fn expect<T: Number>(part: Part, expected: T, got: T) -> Option<Difference>
+    ensures { result ≡ compared part 0 (T.value expected) (T.value got) }
 {
     expect_at(part, 0, expected, got)
 }
 
-// A number of places, held against the one expected.
-pub fn expect_size(part: Part, expected: usize, got: usize) -> Difference
-    ensures { result ≡ compared part 0 expected got }
+// An array, held against one that begins with the numbers expected; behind these 0 is told.
+pub fn expect_items<T: Number>(part: Part, expected: &[T], got: &[T]) -> Option<Difference>
+    ensures { result ≡ compared_items T.value part 0 expected.now got.now }
 {
-    expect(part, expected as u64, got as u64)
-}
-
-// A truth, held against the one expected: 1 is true.
-pub fn expect_truth(part: Part, expected: bool, got: bool) -> Difference
-    ensures { result ≡ compared part 0 (bit expected) (bit got) }
-{
-    expect(part, expected as u64, got as u64)
-}
-
-// A word at a place, held against the one expected.
-pub fn expect_word(place: usize, expected: u32, got: u32) -> Difference
-    ensures { result ≡ compared Part.Word place expected got }
-{
-    expect_at(Part::Word, place, expected as u64, got as u64)
-}
-
-// A value at a place, held against the one expected.
-pub fn expect_value(place: usize, expected: i32, got: i32) -> Difference
-    ensures { result ≡ compared_value place expected got }
-{
-    if expected == got {
-        return Difference::Nothing;
+    for i in 0..got.len() {
+        if i >= expected.len() {
+            return differ(part, i, 0, got[i].wide());
+        }
+        let d = expect_at(part, i, expected[i], got[i]);
+        if d.is_some() {
+            return d;
+        }
     }
-    Difference::Differs {
-        part: Part::Value,
-        place,
-        expected: lift(expected),
-        got: lift(got),
-    }
+    None
 }
 
-// The word at a place differs; behind the end of an array it is 0.
-fn differ_at(expected: &[u32], got: &[u32], i: usize) -> Difference
-    ensures { result ≡ differ_at expected.now got.now i }
+// An array from a place on, each number of which is expected to be v.
+pub fn expect_held<T: Number>(part: Part, got: &[T], from: usize, v: T) -> Option<Difference>
+    ensures { result ≡ compared_held T.value part from v (drop from got.now) }
 {
-    Difference::Differs {
-        part: Part::Word,
-        place: i,
-        expected: arrays::number(expected, i) as u64,
-        got: arrays::number(got, i) as u64,
+    for i in from..got.len() {
+        let d = expect_at(part, i, v, got[i]);
+        if d.is_some() {
+            return d;
+        }
     }
+    None
 }
 
-// An array, held against one that begins with the words expected.
-pub fn expect_words(expected: &[u32], got: &[u32]) -> Difference
+// An array that is expected to begin with these numbers, and to hold v behind them.
+pub fn expect_front<T: Number>(part: Part, expected: &[T], v: T, got: &[T]) -> Option<Difference>
+    ensures { result ≡ compared_front T.value part 0 v expected.now got.now }
+{
+    for i in 0..expected.len() {
+        if i >= got.len() {
+            return differ(part, i, expected[i].wide(), 0);
+        }
+        let d = expect_at(part, i, expected[i], got[i]);
+        if d.is_some() {
+            return d;
+        }
+    }
+    expect_held(part, got, expected.len(), v)
+}
+
+// ---- words
+
+// A word array, held against one that begins with the words expected.
+pub fn expect_words(expected: &[u32], got: &[u32]) -> Option<Difference>
     ensures { result ≡ compared_words expected.now got.now }
 {
-    let i = arrays::alike(expected, got);
-    if i == got.len() {
-        return Difference::Nothing;
-    }
-    differ_at(expected, got, i)
+    expect_items(Part::Word, expected, got)
 }
 
-// An array from a place on, each word of which is expected to be v.
-pub fn expect_held(got: &[u32], from: usize, v: u32) -> Difference
-    ensures { result ≡ compared_held got.now from v }
+// Every word of an array is expected to be what arrays hold before an entry writes to them.
+pub fn expect_unwritten(got: &[u32]) -> Option<Difference>
+    ensures { result ≡ compared_held pos Part.Word 0 before got.now }
 {
-    let i = arrays::held_until(got, from, v);
-    if i >= got.len() {
-        return Difference::Nothing;
-    }
-    Difference::Differs {
-        part: Part::Word,
-        place: i,
-        expected: v as u64,
-        got: arrays::number(got, i) as u64,
-    }
+    expect_held(Part::Word, got, 0, arrays::BEFORE)
 }
 
 // An array that is expected to begin with these words, and to hold behind them what it held before.
-pub fn expect_front(expected: &[u32], got: &[u32]) -> Difference
-    ensures { result ≡ compared_front expected.now got.now }
+pub fn expect_written(expected: &[u32], got: &[u32]) -> Option<Difference>
+    ensures { result ≡ compared_front pos Part.Word 0 before expected.now got.now }
 {
-    let i = arrays::alike(expected, got);
-    if i == expected.len() {
-        return expect_held(got, i, arrays::BEFORE);
-    }
-    differ_at(expected, got, i)
+    expect_front(Part::Word, expected, arrays::BEFORE, got)
 }

@@ -1,191 +1,168 @@
-// Answers of the finder's entries, held against what is expected. A refusal is expected by its
-// number, and 0 is none.
+// Answers of the finder's entries, held against what is expected: an answer, or the number of a
+// refusal.
 ghost use Rattle.std.specs.Prelude.{◌≡◌};
-ghost use Rattle.answers.specs.Told.{number as refusalNumber, told_streamed};
-ghost use Rattle.test_differences.specs.Expect.{compared_refusal, compared_sizes, compared_written, compared_next, compared_set, compared_built};
-ghost use Rattle.test_differences.specs.Expect.{compared_filtered, compared_counts, compared_stream, found_first, compared_hit, compared_first};
+ghost use Rattle.lists.specs.Prelude.{pos, Option};
+ghost use Rattle.answers.specs.Told.{told_end};
+ghost use Rattle.test_differences.specs.declared.difference.Difference.{Difference as Differing};
+ghost use Rattle.test_differences.specs.Difference.{bit, compared};
+ghost use Rattle.test_differences.specs.Expect.{number_of, compared_answer, compared_written, compared_code, compared_list, compared_set, compared_automaton};
+ghost use Rattle.test_differences.specs.Expect.{compared_filtered, compared_counts, compared_progress, compared_first};
 
-use super::difference;
-use super::difference::{Difference, Part};
-use answers::{
-    Built, Counts, Filtered, FirstHit, Hit, NextList, Refusal, SetSize, StreamAnswer, Written,
-};
+use super::difference::{Difference, Part, expect};
+use answers::{AutomatonSize, Counts, End, Filtered, FirstHit, Progress, Refusal, SetSize};
 
-// A refusal, held against the one expected.
-pub fn refused(number: u64, r: Refusal) -> Difference
-    ensures { result ≡ compared_refusal number (refusalNumber r) }
-{
-    difference::expect(Part::Refusal, number, answers::refusal_number(r) as u64)
-}
+// What an entry tells where it does not refuse.
+pub trait Answer: Copy {
+    ghost differing: { Self → Self → Option Differing };
 
-// An answer that is no refusal.
-fn accepted(number: u64) -> Difference
-    ensures { result ≡ compared_refusal number 0 }
-{
-    difference::expect(Part::Refusal, number, 0)
+    // What is told, held against what is expected.
+    fn compare(want: Self, got: Self) -> Option<Difference>
+        ensures { result ≡ differing want got };
 }
 
 // The words written.
-pub fn written(a: Written, number: u64, count: u64) -> Difference
-    ensures { result ≡ compared_written a number count }
-{
-    match a {
-        Written::Words(n) => difference::first(
-            accepted(number),
-            difference::expect(Part::Written, count, n as u64),
-        ),
-        Written::Refused(r) => refused(number, r),
+impl Answer for usize {
+    ghost differing = { compared_written };
+
+    fn compare(want: usize, got: usize) -> Option<Difference> {
+        expect(Part::Written, want, got)
     }
 }
 
-// Whether the list is the last of its catalogue, 1 where it is, and the words written.
-pub fn next_list(a: NextList, number: u64, last: u64, count: u64) -> Difference
-    ensures { result ≡ compared_next a number last count }
-{
-    match a {
-        NextList::Words(n) => {
-            sizes(number, Part::Last, last, 0, Part::Written, count, n as u64)
-        },
-        NextList::Last => sizes(number, Part::Last, last, 1, Part::Written, count, 0),
-        NextList::Refused(r) => refused(number, r),
+// The code of a list.
+impl Answer for u64 {
+    ghost differing = { compared_code };
+
+    fn compare(want: u64, got: u64) -> Option<Difference> {
+        expect(Part::Code, want, got)
     }
 }
 
-// Two numbers, and no refusal before them.
-fn sizes(number: u64, p: Part, a: u64, b: u64, q: Part, c: u64, d: u64) -> Difference
-    ensures { result ≡ compared_sizes number p a b q c d }
-{
-    let one = difference::expect(p, a, b);
-    let other = difference::expect(q, c, d);
-    difference::first(accepted(number), difference::first(one, other))
+// The words written, or none where the list is the last of its catalogue.
+impl Answer for Option<usize> {
+    ghost differing = { compared_list };
+
+    fn compare(want: Option<usize>, got: Option<usize>) -> Option<Difference> {
+        match (want, got) {
+            (Some(n), Some(m)) => expect(Part::Written, n, m),
+            (None, None) => None,
+            (Some(_), None) => expect(Part::Last, false, true),
+            (None, Some(_)) => expect(Part::Last, true, false),
+        }
+    }
 }
 
 // The patterns and the distances of a set.
-pub fn set_size(a: SetSize, number: u64, patterns: u64, distances: u64) -> Difference
-    ensures { result ≡ compared_set a number patterns distances }
-{
-    match a {
-        SetSize::Holds(k, n) => sizes(
-            number,
-            Part::Patterns,
-            patterns,
-            k as u64,
+impl Answer for SetSize {
+    ghost differing = { compared_set };
+
+    fn compare(want: SetSize, got: SetSize) -> Option<Difference> {
+        expect(Part::Patterns, want.patterns, got.patterns).or(expect(
             Part::Distances,
-            distances,
-            n as u64,
-        ),
-        SetSize::Refused(r) => refused(number, r),
+            want.distances,
+            got.distances,
+        ))
     }
 }
 
 // The nodes and the words of an automaton.
-pub fn built(a: Built, number: u64, nodes: usize, words: usize) -> Difference
-    ensures { result ≡ compared_built a number nodes words }
-{
-    match a {
-        Built::Nodes(n, w) => sizes(
-            number,
-            Part::Nodes,
-            nodes as u64,
-            n as u64,
+impl Answer for AutomatonSize {
+    ghost differing = { compared_automaton };
+
+    fn compare(want: AutomatonSize, got: AutomatonSize) -> Option<Difference> {
+        expect(Part::Nodes, want.nodes, got.nodes).or(expect(
             Part::AutomatonWords,
-            words as u64,
-            w as u64,
-        ),
-        Built::Refused(r) => refused(number, r),
+            want.words,
+            got.words,
+        ))
     }
 }
 
 // The hits and the candidates of a filter search.
-pub fn filtered(a: Filtered, number: u64, hits: usize, candidates: usize) -> Difference
-    ensures { result ≡ compared_filtered a number hits candidates }
-{
-    match a {
-        Filtered::Found(h, c) => sizes(
-            number,
-            Part::Hits,
-            hits as u64,
-            h as u64,
+impl Answer for Filtered {
+    ghost differing = { compared_filtered };
+
+    fn compare(want: Filtered, got: Filtered) -> Option<Difference> {
+        expect(Part::Hits, want.hits, got.hits).or(expect(
             Part::Candidates,
-            candidates as u64,
-            c as u64,
-        ),
-        Filtered::Refused(r) => refused(number, r),
+            want.candidates,
+            got.candidates,
+        ))
     }
 }
 
 // What a call of a stream search counted.
-fn counts(want: Counts, c: Counts) -> Difference
-    ensures { result ≡ compared_counts want c }
+fn compare_counts(want: Counts, got: Counts) -> Option<Difference>
+    ensures { result ≡ compared_counts want got }
 {
-    let taken = difference::expect_size(Part::Taken, want.taken, c.taken);
-    let hits = difference::expect_size(Part::Hits, want.hits, c.hits);
-    let attempts = difference::expect_size(Part::Attempts, want.attempts, c.attempts);
-    difference::first(taken, difference::first(hits, attempts))
+    expect(Part::Taken, want.taken, got.taken)
+        .or(expect(Part::Hits, want.hits, got.hits))
+        .or(expect(Part::Attempts, want.attempts, got.attempts))
 }
 
-// A call of a stream search that is expected to count this, and to end, or else to be full.
-pub fn streamed(a: StreamAnswer, ended: bool, want: Counts) -> Difference
-    ensures { result ≡ compared_stream a ended want }
+// Whether no value is left.
+fn has_ended(end: End) -> bool
+    ensures { bit result ≡ told_end end }
 {
-    match a {
-        StreamAnswer::Ended(c) => difference::first(
-            difference::expect_truth(Part::Ended, ended, true),
-            counts(want, c),
-        ),
-        StreamAnswer::Full(c) => difference::first(
-            difference::expect_truth(Part::Ended, ended, false),
-            counts(want, c),
-        ),
-        StreamAnswer::Refused(r) => refused(0, r),
+    match end {
+        End::Ended => true,
+        End::Full => false,
     }
 }
 
-// A call of a stream search that is expected to be refused.
-pub fn stream_refused(a: StreamAnswer, number: u64) -> Difference
-    ensures { result ≡ compared_refusal number (told_streamed a).0 }
-{
-    match a {
-        StreamAnswer::Ended(_) => accepted(number),
-        StreamAnswer::Full(_) => accepted(number),
-        StreamAnswer::Refused(r) => refused(number, r),
+// How a call of a stream search ended, and what it counted.
+impl Answer for Progress {
+    ghost differing = { compared_progress };
+
+    fn compare(want: Progress, got: Progress) -> Option<Difference> {
+        expect(Part::Ended, has_ended(want.end), has_ended(got.end)).or(compare_counts(
+            want.counts,
+            got.counts,
+        ))
     }
 }
 
-// Whether there is a hit, 1 where there is, and the hit, with no refusal before them.
-fn hit(number: u64, found: u64, want: Hit, got: u64, h: Hit) -> Difference
-    ensures { result ≡ compared_hit number found want got h }
-{
-    let last = difference::expect_size(Part::LastPlace, want.last, h.last);
-    let pattern = difference::expect_size(Part::Pattern, want.pattern, h.pattern);
-    let read = difference::expect_size(Part::Read, want.read, h.read);
-    let all = difference::first(last, difference::first(pattern, read));
-    found_first(number, found, got, all)
+// Whether there is a hit, the hit, and the values read.
+impl Answer for FirstHit {
+    ghost differing = { compared_first };
+
+    fn compare(want: FirstHit, got: FirstHit) -> Option<Difference> {
+        match (want.hit, got.hit) {
+            (Some(w), Some(g)) => expect(Part::LastPlace, w.last, g.last)
+                .or(expect(Part::Pattern, w.pattern, g.pattern))
+                .or(expect(Part::Read, want.read, got.read)),
+            (None, None) => expect(Part::Read, want.read, got.read),
+            (Some(_), None) => expect(Part::Found, true, false),
+            (None, Some(_)) => expect(Part::Found, false, true),
+        }
+    }
 }
 
-// Whether there is a hit, with no refusal before it, and then what differs else.
-fn found_first(number: u64, found: u64, got: u64, rest: Difference) -> Difference
-    ensures { result ≡ found_first number found got rest }
+// The number of the refusal of an answer, and 0 where it is none.
+// No Option: numbers are compared, and an accepted call has 0.
+fn refusal_number<T: Copy>(answer: Result<T, Refusal>) -> u64
+    ensures { result ≡ number_of answer }
 {
-    let some = difference::expect(Part::Found, found, got);
-    difference::first(accepted(number), difference::first(some, rest))
+    match answer {
+        Ok(_) => 0,
+        Err(r) => u32::from(r) as u64,
+    }
 }
 
-// A first hit, or none, where 1 or 0 is expected to be found; where there is none, place and number
-// are 0.
-pub fn first_hit(a: FirstHit, number: u64, found: u64, want: Hit) -> Difference
-    ensures { result ≡ compared_first a number found want }
+// An answer, held against a refusal by its number, or 0 where none is expected.
+pub fn refused<T: Copy>(number: u64, got: Result<T, Refusal>) -> Option<Difference>
+    ensures { result ≡ compared Part.Refusal 0 (pos number) (pos (number_of got)) }
 {
-    match a {
-        FirstHit::Found(h) => hit(number, found, want, 1, h),
-        FirstHit::NoHit(n) => {
-            let none = Hit {
-                last: 0,
-                pattern: 0,
-                read: n,
-            };
-            hit(number, found, want, 0, none)
-        },
-        FirstHit::Refused(r) => refused(number, r),
+    expect(Part::Refusal, number, refusal_number(got))
+}
+
+// An answer, held against the one expected, or against a refusal by its number.
+pub fn answered<T: Answer>(want: Result<T, u64>, got: Result<T, Refusal>) -> Option<Difference>
+    ensures { result ≡ compared_answer T.differing want got }
+{
+    match (want, got) {
+        (Ok(w), Ok(g)) => T::compare(w, g),
+        (Ok(_), Err(_)) => refused(0, got),
+        (Err(number), _) => refused(number, got),
     }
 }

@@ -5,7 +5,7 @@
 
 ghost use Rattle.std.specs.Prelude.{◌≤◌};
 
-use answers::Filtered;
+use answers::{Filtered, Refusal};
 use test_differences::difference::{Difference, Part};
 use test_differences::{difference, expect};
 use test_inputs::arrays;
@@ -14,42 +14,25 @@ use test_inputs::arrays;
 #[derive(Clone, Copy)]
 pub struct Compared {
     pub words: usize,
-    pub difference: Difference,
-}
-
-// What the plain search says of a set and a text: the words of its list, and the candidates.
-#[derive(Clone, Copy)]
-struct Plain {
-    words: usize,
-    candidates: usize,
+    pub difference: Option<Difference>,
 }
 
 // The search in the first words of a hit array and the first values of a second one.
-fn search(
+// Six parameters: those of the entry, and how much of both arrays it gets.
+pub fn search(
     set: &[u32],
     text: &[i32],
     room: usize,
     values: usize,
     out: &mut [u32],
     rises: &mut [i32],
-) -> Filtered {
-    let n = arrays::smaller(room, out.len());
-    let m = arrays::smaller(values, rises.len());
+) -> Result<Filtered, Refusal> {
+    let n = room.min(out.len());
+    let m = values.min(rises.len());
     finder::filter_search(set, text, &mut out[..n], &mut rises[..m])
 }
 
 // ---- refused
-
-fn refused_in(set: &[u32], text: &[i32], number: u64, room: usize, values: usize) -> Difference {
-    let mut out = [arrays::BEFORE; 2048];
-    let mut rises = [test_rises::BEFORE; 1024];
-    let a = search(set, text, room, values, &mut out, &mut rises);
-    let kept = difference::first(
-        difference::expect_held(&out, 0, arrays::BEFORE),
-        test_rises::expect_front(&[], &rises),
-    );
-    difference::first(expect::filtered(a, number, 0, 0), kept)
-}
 
 // The search in arrays of so many words and values is expected to be refused by the number, and to
 // write nothing.
@@ -59,119 +42,109 @@ pub fn expect_refused(
     number: u64,
     room: usize,
     values: usize,
-) -> Compared
-    ensures { result.words ≤ 2048 }
-{
-    Compared {
-        words: arrays::smaller(room, 2048),
-        difference: refused_in(set, text, number, room, values),
-    }
+) -> Option<Difference> {
+    let mut out = [arrays::BEFORE; 2048];
+    let mut rises = [test_rises::BEFORE; 1024];
+    let a = search(set, text, room, values, &mut out, &mut rises);
+    expect::answered(Err(number), a)
+        .or(difference::expect_unwritten(&out))
+        .or(test_rises::expect_front(&[], &rises))
 }
 
 // A hit array of an odd number of words with room for the list, and a second array one value too
 // short for it: 10.
-fn expect_odd_refused(set: &[u32], text: &[i32], words: usize) -> Difference
+fn expect_odd_refused(set: &[u32], text: &[i32], words: usize) -> Option<Difference>
     requires { words ≤ 2048 }
 {
     let odd = words + 1 + words % 8;
-    refused_in(set, text, 10, odd, test_rises::least(odd) - 1)
+    expect_refused(set, text, 10, odd, test_rises::least(odd) - 1)
 }
 
 // A hit array one word too short: 11, and with a second array one value too short for it 10.
-fn expect_less_refused(set: &[u32], text: &[i32], words: usize) -> Difference {
+fn expect_less_refused(set: &[u32], text: &[i32], words: usize) -> Option<Difference> {
     if words < 2 {
-        return difference::none();
+        return None;
     }
     let values = test_rises::least(words - 1);
-    let list = refused_in(set, text, 11, words - 1, values);
-    let both = refused_in(set, text, 10, words - 1, values - 1);
-    let exact = refused_in(set, text, 10, words, values - 1);
-    difference::first(list, difference::first(both, exact))
+    expect_refused(set, text, 11, words - 1, values)
+        .or(expect_refused(set, text, 10, words - 1, values - 1))
+        .or(expect_refused(set, text, 10, words, values - 1))
 }
 
 // ---- found
 
-// The search in a hit array of so many words, and a second array that is as long as it must be, is
-// expected to find these hits and their rises, and to write nothing else.
-fn expect_found(
-    set: &[u32],
-    text: &[i32],
-    want: &[u32],
-    plain: Plain,
-    room: usize,
-    out: &mut [u32],
-) -> Difference {
-    let mut rises = [test_rises::BEFORE; 1024];
-    arrays::hold(out, arrays::BEFORE);
-    let a = search(set, text, room, test_rises::least(room), out, &mut rises);
-    let hits = plain.words / 2;
-    let written = difference::first(
-        difference::expect_words(want, out),
-        test_rises::expect(set, text, want, hits, &rises),
-    );
-    difference::first(expect::filtered(a, 0, hits, plain.candidates), written)
+// What the plain search says of a set and a text: the list of hits, its words, and the candidates.
+#[derive(Clone, Copy)]
+struct Plain<'a> {
+    set: &'a [u32],
+    text: &'a [i32],
+    want: &'a [u32],
+    words: usize,
+    candidates: usize,
 }
 
-// The search in hit arrays of the words of the list, of 1, 3, 5 or 7 more, and of all.
-fn expect_lists(
-    set: &[u32],
-    text: &[i32],
-    want: &[u32],
-    plain: Plain,
-    out: &mut [u32],
-) -> Difference {
-    let words = arrays::smaller(plain.words, 2048);
-    let exact = expect_found(set, text, want, plain, words, out);
-    let odd = expect_found(set, text, want, plain, words + 1 + words % 8, out);
-    let long = expect_found(set, text, want, plain, 2048, out);
-    difference::first(exact, difference::first(odd, long))
+impl<'a> Plain<'a> {
+    // The search in a hit array of so many words, and a second array that is as long as it must be,
+    // is expected to find these hits and their rises, and to write nothing else.
+    fn expect_found(&self, room: usize) -> Option<Difference> {
+        let mut out = [arrays::BEFORE; 2048];
+        let mut rises = [test_rises::BEFORE; 1024];
+        let least = test_rises::least(room);
+        let a = search(self.set, self.text, room, least, &mut out, &mut rises);
+        let hits = self.words / 2;
+        let found = Filtered {
+            hits,
+            candidates: self.candidates,
+        };
+        expect::answered(Ok(found), a)
+            .or(difference::expect_words(self.want, &out))
+            .or(test_rises::expect(self.set, self.text, self.want, hits, &rises))
+    }
+
+    // The search in hit arrays of the words of the list, of 1, 3, 5 or 7 more, and of all.
+    fn expect_lists(&self) -> Option<Difference> {
+        let words = self.words.min(2048);
+        self.expect_found(words)
+            .or(self.expect_found(words + 1 + words % 8))
+            .or(self.expect_found(2048))
+    }
 }
 
 // The search is expected to agree with the plain search, whose list is shorter than the arrays.
-fn expect_plain_in(set: &[u32], text: &[i32], want: &mut [u32], out: &mut [u32]) -> Compared
-    ensures { result.words ≤ 2048 }
-{
-    arrays::hold(want, arrays::BEFORE);
-    let words = test_plain::hits_between(set, text, 0, text.len(), want);
-    let plain = Plain {
-        words,
-        candidates: test_plain::candidates(set, text),
-    };
-    let fits = difference::expect_truth(Part::Room, true, words < 2040);
-    Compared {
-        words: arrays::smaller(words, 2048),
-        difference: difference::first(fits, expect_lists(set, text, want, plain, out)),
-    }
-}
-
 fn expect_plain_found(set: &[u32], text: &[i32]) -> Compared
     ensures { result.words ≤ 2048 }
 {
-    let mut want = [0u32; 2048];
-    let mut out = [0u32; 2048];
-    expect_plain_in(set, text, &mut want, &mut out)
+    let mut want = [arrays::BEFORE; 2048];
+    let words = test_plain::hits_between(set, text, 0, text.len(), &mut want);
+    let candidates = test_plain::candidates(set, text);
+    let plain = Plain {
+        set,
+        text,
+        want: &want,
+        words,
+        candidates,
+    };
+    Compared {
+        words: words.min(2048),
+        difference: difference::expect(Part::Room, true, words < 2040).or(plain.expect_lists()),
+    }
 }
 
 // ---- all
-
-fn expect_all(set: &[u32], text: &[i32]) -> Compared
-    ensures { result.words ≤ 2048 }
-{
-    let found = expect_plain_found(set, text);
-    let odd = expect_odd_refused(set, text, found.words);
-    let less = expect_less_refused(set, text, found.words);
-    let d = found.difference;
-    Compared {
-        words: found.words,
-        difference: difference::first(d, difference::first(odd, less)),
-    }
-}
 
 // The search over the first n values of a text is expected to agree with the plain search, in
 // arrays that are just long enough and in longer ones, and to be refused in shorter ones.
 pub fn expect_plain(set: &[u32], text: &[i32], n: usize) -> Compared
     ensures { result.words ≤ 2048 }
 {
-    let m = arrays::smaller(n, text.len());
-    expect_all(set, &text[..m])
+    let part = &text[..n.min(text.len())];
+    let found = expect_plain_found(set, part);
+    let words = found.words;
+    Compared {
+        words,
+        difference: found
+            .difference
+            .or(expect_odd_refused(set, part, words))
+            .or(expect_less_refused(set, part, words)),
+    }
 }

@@ -1,4 +1,4 @@
-// What test programs are made of: texts from a seed, and reading and comparing arrays. No function
+// What test programs are made of: texts from a seed, and reading and writing arrays. No function
 // asks anything of its caller.
 #![tactic(auto)]
 

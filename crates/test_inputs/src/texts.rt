@@ -2,8 +2,6 @@
 ghost use Rattle.std.specs.Prelude.{◌≡◌, ◌≤◌, ◌<◌};
 ghost use Rattle.lists.specs.Prelude.{length};
 
-use super::arrays;
-
 // The number after a seed: a step of a linear congruential generator.
 pub fn next(seed: usize) -> usize
     ensures { result < 2147483647 }
@@ -15,7 +13,7 @@ pub fn next(seed: usize) -> usize
 pub fn pick(seed: usize, most: usize) -> usize
     ensures { (result ≤ most) × (result ≤ 1000000) }
 {
-    seed % (arrays::smaller(most, 1000000) + 1)
+    seed % (most.min(1000000) + 1)
 }
 
 // What stands in a text where the recorder had no sample.
@@ -65,15 +63,13 @@ fn as_value(kind: usize, height: usize) -> i32
 pub fn fill(out: &mut [i32], n: usize, kind: usize, seed: usize) -> usize
     ensures { result < 2147483647 }
 {
-    let m = arrays::smaller(n, out.len());
+    let m = n.min(out.len());
     let mut s = next(seed);
     let mut h: usize = 500;
-    let mut i = 0;
-    while i < m {
+    for x in &mut out[..m] {
         s = next(s);
         h = height(kind, h, s);
-        out[i] = as_value(kind, h);
-        i += 1;
+        *x = as_value(kind, h);
     }
     s
 }
@@ -83,18 +79,10 @@ pub fn fill(out: &mut [i32], n: usize, kind: usize, seed: usize) -> usize
 pub fn copy(text: &[i32], from: usize, out: &mut [i32], n: usize) -> usize
     ensures { result ≤ n }
 {
-    let m = arrays::smaller(n, out.len());
-    let mut j = from;
-    let mut i = 0;
-    while i < m {
-        if j >= text.len() {
-            return i;
-        }
-        out[i] = text[j];
-        j += 1;
-        i += 1;
-    }
-    i
+    let rest = &text[from.min(text.len())..];
+    let m = n.min(out.len()).min(rest.len());
+    out[..m].copy_from_slice(&rest[..m]);
+    m
 }
 
 // ---- gaps
@@ -125,6 +113,7 @@ pub fn gap_distance(number: usize) -> usize
 }
 
 // Lengths of patterns about those at which a search does something else.
+// A table of lengths by number, and no conversion.
 pub fn pattern_length(number: usize) -> usize
     ensures { result ≤ 256 }
 {
@@ -148,6 +137,7 @@ fn is_in_row(i: usize, every: usize, row: usize) -> bool {
 }
 
 // A gap, or else the value.
+// `is_gap` is the number of a case, and picks no step.
 fn gap_or(is_gap: bool, value: i32) -> i32 {
     if is_gap { GAP } else { value }
 }
@@ -162,11 +152,9 @@ fn as_sample(value: i32) -> i32 {
 pub fn put_gaps(out: &mut [i32], n: usize, from: usize, every: usize, row: usize)
     ensures { length out.new ≡ length out.old }
 {
-    let m = arrays::smaller(n, out.len());
-    let mut i = from;
-    while i < m {
+    let m = n.min(out.len());
+    for i in from..m {
         out[i] = gap_or(is_in_row(i - from, every, row), out[i]);
-        i += 1;
     }
 }
 
@@ -175,13 +163,11 @@ pub fn scatter_gaps(out: &mut [i32], n: usize, one_of: usize, seed: usize) -> us
     ensures upper_bound { result < 2147483647 }
     ensures out_len_unchanged { length out.new ≡ length out.old }
 {
-    let m = arrays::smaller(n, out.len());
+    let m = n.min(out.len());
     let mut s = next(seed);
-    let mut i = 0;
-    while i < m {
+    for x in &mut out[..m] {
         s = next(s);
-        out[i] = gap_or(is_in_row(s / 8, one_of, 1), out[i]);
-        i += 1;
+        *x = gap_or(is_in_row(s / 8, one_of, 1), *x);
     }
     s
 }
@@ -190,10 +176,8 @@ pub fn scatter_gaps(out: &mut [i32], n: usize, one_of: usize, seed: usize) -> us
 pub fn fill_gaps(out: &mut [i32], n: usize)
     ensures { length out.new ≡ length out.old }
 {
-    let m = arrays::smaller(n, out.len());
-    let mut i = 0;
-    while i < m {
-        out[i] = as_sample(out[i]);
-        i += 1;
+    let m = n.min(out.len());
+    for x in &mut out[..m] {
+        *x = as_sample(*x);
     }
 }

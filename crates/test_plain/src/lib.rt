@@ -22,9 +22,7 @@ fn is_gap(text: &[i32], i: usize) -> bool {
 pub fn holds_gap(text: &[i32], from: usize, end: usize) -> bool
     ensures { result ≡ true → from < end }
 {
-    let mut i = end;
-    while i > from {
-        i -= 1;
+    for i in (from..end).rev() {
         if is_gap(text, i) {
             return true;
         }
@@ -33,29 +31,27 @@ pub fn holds_gap(text: &[i32], from: usize, end: usize) -> bool
 }
 
 // The first place from the given one on that has a gap; the end where there is none.
+// No Option: the part that is looked at ends there.
 pub fn next_gap(text: &[i32], from: usize) -> usize
     ensures { result ≤ length text.now }
 {
-    let mut i = from;
-    while i < text.len() {
+    for i in from..text.len() {
         if is_gap(text, i) {
             return i;
         }
-        i += 1;
     }
     text.len()
 }
 
 // The first place from the given one on that has a sample; the end where there is none.
+// No Option: the part that is looked at ends there.
 pub fn next_sample(text: &[i32], from: usize) -> usize
     ensures { result ≤ length text.now }
 {
-    let mut i = from;
-    while i < text.len() {
+    for i in from..text.len() {
         if !is_gap(text, i) {
             return i;
         }
-        i += 1;
     }
     text.len()
 }
@@ -76,29 +72,26 @@ fn not_above(text: &[i32], j: usize, i: usize) -> bool {
 pub fn distance(text: &[i32], from: usize, i: usize) -> usize
     ensures { result ≤ i }
 {
-    let mut j = i;
-    while j > from {
-        if not_above(text, j - 1, i) {
-            return i - j + 1;
+    for j in (from..i).rev() {
+        if not_above(text, j, i) {
+            return i - j;
         }
-        j -= 1;
     }
     0
 }
 
 // The first place behind q and before an end whose value is smaller than that at q; the end where
 // there is none.
+// No Option: the part that is looked at ends there.
 pub fn closed_at(text: &[i32], q: usize, end: usize) -> usize
     ensures { result ≤ q + end }
 {
-    let mut e = q;
-    while e < end {
+    for e in q..end {
         if !not_above(text, q, e) {
             return e;
         }
-        e += 1;
     }
-    e
+    q.max(end)
 }
 
 // ---- the patterns of a set array
@@ -107,7 +100,7 @@ pub fn closed_at(text: &[i32], q: usize, end: usize) -> usize
 pub fn pattern_count(set: &[u32]) -> usize
     ensures { result ≤ 64 }
 {
-    arrays::smaller(arrays::number(set, 0), 64)
+    arrays::number(set, 0).min(64)
 }
 
 // The distances before pattern j.
@@ -149,13 +142,10 @@ pub fn pattern_distance(set: &[u32], j: usize, i: usize) -> usize
 
 // Whether pattern j begins with the distances of the window.
 fn begins_with(set: &[u32], j: usize, text: &[i32], from: usize, end: usize) -> bool {
-    let mut i = from;
-    while i < end {
-        let d = distance(text, from, i);
-        if d != pattern_distance(set, j, i - from) {
+    for i in from..end {
+        if distance(text, from, i) != pattern_distance(set, j, i - from) {
             return false;
         }
-        i += 1;
     }
     true
 }
@@ -172,10 +162,11 @@ fn put_hit(out: &mut [u32], at: usize, place: usize, j: usize) -> usize
     }
     arrays::put(out, at, place);
     arrays::put(out, at + 1, j);
-    arrays::smaller(at + 2, out.len())
+    out.len().min(at + 2)
 }
 
 // Puts the hit of pattern j whose window of n values ends before a place, if there is one.
+// Seven parameters: a window and a pattern, and where their hit goes.
 fn put_if_hit(
     set: &[u32],
     text: &[i32],
@@ -201,6 +192,7 @@ fn put_if_hit(
 }
 
 // The hits of the patterns of n values whose window ends before a place, lower number first.
+// Six parameters: the windows that end at a place, and where their hits go.
 fn hits_of_length(
     set: &[u32],
     text: &[i32],
@@ -212,12 +204,9 @@ fn hits_of_length(
     requires { (1 ≤ n) × (n ≤ end) × (at ≤ length out.old) }
     ensures { result ≤ length out.new }
 {
-    let k = pattern_count(set);
     let mut to = at;
-    let mut j = 0;
-    while j < k {
+    for j in 0..pattern_count(set) {
         to = put_if_hit(set, text, end, n, j, out, to);
-        j += 1;
     }
     to
 }
@@ -228,10 +217,8 @@ fn hits_at(set: &[u32], text: &[i32], end: usize, out: &mut [u32], at: usize) ->
     ensures { result ≤ length out.new }
 {
     let mut to = at;
-    let mut n = arrays::smaller(end, longest(set));
-    while n > 0 {
+    for n in (1..end.min(longest(set)) + 1).rev() {
         to = hits_of_length(set, text, end, n, out, to);
-        n -= 1;
     }
     to
 }
@@ -240,15 +227,9 @@ fn hits_at(set: &[u32], text: &[i32], end: usize, out: &mut [u32], at: usize) ->
 pub fn longest(set: &[u32]) -> usize
     ensures { result < 4294967296 }
 {
-    let k = pattern_count(set);
     let mut most = 0;
-    let mut j = 0;
-    while j < k {
-        let n = pattern_length(set, j);
-        if n > most {
-            most = n;
-        }
-        j += 1;
+    for j in 0..pattern_count(set) {
+        most = most.max(pattern_length(set, j));
     }
     most
 }
@@ -259,10 +240,8 @@ pub fn hits_between(set: &[u32], text: &[i32], first: usize, last: usize, out: &
     ensures { result ≤ length out.new }
 {
     let mut to = 0;
-    let mut p = first;
-    while p < last {
-        p += 1;
-        to = hits_at(set, text, p, out, to);
+    for p in first..last {
+        to = hits_at(set, text, p + 1, out, to);
     }
     to
 }
@@ -273,12 +252,9 @@ pub fn hits_between(set: &[u32], text: &[i32], first: usize, last: usize, out: &
 fn fingerprint_length(set: &[u32]) -> usize
     ensures { result ≤ 17 }
 {
-    let k = pattern_count(set);
     let mut b = 17;
-    let mut j = 0;
-    while j < k {
-        b = arrays::smaller(b, pattern_length(set, j));
-        j += 1;
+    for j in 0..pattern_count(set) {
+        b = pattern_length(set, j).min(b);
     }
     b
 }
@@ -293,15 +269,11 @@ fn same_fingerprint(set: &[u32], j: usize, text: &[i32], end: usize, b: usize) -
     if n > end {
         return false;
     }
-    let mut i: usize = 1;
-    while i < b {
-        if i < n {
-            let rises = not_above(text, end - i - 1, end - i);
-            if rises != (pattern_distance(set, j, n - i) == 1) {
-                return false;
-            }
+    for i in 1..b.min(n) {
+        let rises = not_above(text, end - i - 1, end - i);
+        if rises != (pattern_distance(set, j, n - i) == 1) {
+            return false;
         }
-        i += 1;
     }
     true
 }
@@ -326,14 +298,11 @@ fn candidates_at(set: &[u32], text: &[i32], end: usize, b: usize) -> usize
     requires { b ≤ 17 }
     ensures { result ≤ 64 }
 {
-    let k = pattern_count(set);
     let mut count = 0;
-    let mut j = 0;
-    while j < k {
+    for j in 0..pattern_count(set) {
         if is_candidate(set, j, text, end, b) {
             count += 1;
         }
-        j += 1;
     }
     count
 }
@@ -343,12 +312,9 @@ pub fn candidates(set: &[u32], text: &[i32]) -> usize
     ensures { result ≤ 67108864 }
 {
     let b = fingerprint_length(set);
-    let n = arrays::smaller(text.len(), 1048576);
     let mut count = 0;
-    let mut end = 0;
-    while end < n {
-        end += 1;
-        count += candidates_at(set, text, end, b);
+    for p in 0..text.len().min(1048576) {
+        count += candidates_at(set, text, p + 1, b);
     }
     count
 }
@@ -362,15 +328,10 @@ fn is_head(set: &[u32], text: &[i32], from: usize, end: usize) -> bool
     if holds_gap(text, from, end) {
         return false;
     }
-    let k = pattern_count(set);
-    let mut j = 0;
-    while j < k {
-        if pattern_length(set, j) >= end - from {
-            if begins_with(set, j, text, from, end) {
-                return true;
-            }
+    for j in 0..pattern_count(set) {
+        if pattern_length(set, j) >= end - from && begins_with(set, j, text, from, end) {
+            return true;
         }
-        j += 1;
     }
     false
 }
@@ -380,12 +341,10 @@ fn is_head(set: &[u32], text: &[i32], from: usize, end: usize) -> bool
 pub fn longest_head(set: &[u32], text: &[i32], end: usize) -> usize
     ensures { result ≤ 256 }
 {
-    let mut n = arrays::smaller(end, 256);
-    while n > 0 {
+    for n in (1..end.min(256) + 1).rev() {
         if is_head(set, text, end - n, end) {
             return n;
         }
-        n -= 1;
     }
     0
 }
@@ -398,12 +357,10 @@ fn attempts_of_sample(set: &[u32], text: &[i32], p: usize) -> usize
     ensures { result ≤ 257 }
 {
     let mut count: usize = 0;
-    let mut n = arrays::smaller(p, 256) + 1;
-    while n > 0 {
-        n -= 1;
-        if is_head(set, text, p - n, p) {
+    for from in p - p.min(256)..p + 1 {
+        if is_head(set, text, from, p) {
             count += 1;
-            if is_head(set, text, p - n, p + 1) {
+            if is_head(set, text, from, p + 1) {
                 return count;
             }
         }
@@ -426,12 +383,9 @@ fn attempts_at(set: &[u32], text: &[i32], p: usize) -> usize
 pub fn attempts_between(set: &[u32], text: &[i32], first: usize, last: usize) -> usize
     ensures { result ≤ 269484032 }
 {
-    let end = arrays::smaller(arrays::smaller(last, text.len()), 1048576);
     let mut count = 0;
-    let mut p = first;
-    while p < end {
+    for p in first..last.min(text.len()).min(1048576) {
         count += attempts_at(set, text, p);
-        p += 1;
     }
     count
 }

@@ -1,9 +1,8 @@
-// The rises over hits by document 02's words, 2.7, and second arrays held against them. Here values
-// and rises are lifted, so that none is below zero: all numbers are natural ones. What is read
-// behind the end of an array is 0. No function asks anything of its caller.
+// The rises over hits by document 02's words, 2.7, and second arrays held against them. What is
+// read behind the end of an array is 0. No function asks anything of its caller.
 #![tactic(auto)]
 
-ghost use Rattle.std.specs.Prelude.{◌≡◌, ◌+◌, ◌*◌, ◌≤◌, ◌<◌};
+ghost use Rattle.std.specs.Prelude.{◌≡◌, ◌*◌, ◌+◌, ◌≤◌, ◌<◌};
 ghost use Rattle.lists.specs.Prelude.{true, length};
 ghost use Rattle.test_differences.specs.Difference.{is_nothing};
 
@@ -16,47 +15,33 @@ pub const BEFORE: i32 = -1500000001;
 
 // ---- the rise
 
-// The value at a place, lifted.
-fn lifted_at(text: &[i32], i: usize) -> u64
-    ensures { result < 4294967296 }
-{
-    if i >= text.len() {
-        return difference::LIFT;
-    }
-    difference::lift(text[i])
+// The value at a place.
+fn value_at(text: &[i32], i: usize) -> i32 {
+    if i < text.len() { text[i] } else { 0 }
 }
 
-// The rise from one lifted value to another one, lifted: the number nearest to it that 32 bits
-// have.
-fn rise(first: u64, last: u64) -> u64
-    requires { (first < 4294967296) × (last < 4294967296) }
-    ensures { result < 4294967296 }
-{
-    let up = last + difference::LIFT;
-    if up < first {
-        return 0;
+// The rise from one value to another one: the number nearest to it that 32 bits have.
+fn rise(first: i32, last: i32) -> i32 {
+    let up = last as i64 - first as i64;
+    match i32::try_from(up) {
+        Ok(r) => r,
+        Err(_) => if up < 0 { i32::MIN } else { i32::MAX },
     }
-    if up - first > 4294967295 {
-        return 4294967295;
-    }
-    up - first
 }
 
-// The rise over the window of n values that ends with a place, lifted.
-fn rise_over(text: &[i32], last: usize, n: usize) -> u64
+// The rise over the window of n values that ends with a place.
+fn rise_over(text: &[i32], last: usize, n: usize) -> i32
     requires { last < 4294967296 }
-    ensures { result < 4294967296 }
 {
     if n > last + 1 {
-        return 0;
+        return i32::MIN;
     }
-    rise(lifted_at(text, last + 1 - n), lifted_at(text, last))
+    rise(value_at(text, last + 1 - n), value_at(text, last))
 }
 
-// The rise over hit i of a list, lifted.
-fn rise_of(set: &[u32], text: &[i32], hits: &[u32], i: usize) -> u64
-    requires { i < 4294967296 }
-    ensures { result < 4294967296 }
+// The rise over hit i of a list.
+fn rise_of(set: &[u32], text: &[i32], hits: &[u32], i: usize) -> i32
+    requires { i ≤ 1048576 }
 {
     let last = arrays::number(hits, 2 * i);
     let j = arrays::number(hits, 2 * i + 1);
@@ -65,82 +50,73 @@ fn rise_of(set: &[u32], text: &[i32], hits: &[u32], i: usize) -> u64
 
 // ---- second arrays
 
-// Puts to every place what second arrays hold before; returns how many there are.
-pub fn hold(rises: &mut [i32]) -> usize
-    ensures { result ≡ length rises.new }
+// A second array is expected to have a place for each of n rises.
+fn expect_room(n: usize, rises: &[i32]) -> Option<Difference>
+    ensures { is_nothing result ≡ true → n ≤ length rises.now }
 {
-    let mut i = 0;
-    while i < rises.len() {
-        rises[i] = BEFORE;
-        i += 1;
+    if n <= rises.len() {
+        return None;
     }
-    i
+    Some(Difference {
+        part: Part::Room,
+        place: 0,
+        expected: n as i128,
+        got: rises.len() as i128,
+    })
 }
 
-// Place i is expected to hold the rise over hit i of a list of n, or what it held before.
-fn expect_place(
+// The places of a second array, up to one that no hit array has, are expected to hold the rises
+// over the n hits of a list, and behind them what they held before.
+fn expect_places(
     set: &[u32],
     text: &[i32],
     hits: &[u32],
     n: usize,
     rises: &[i32],
-    i: usize,
-) -> Difference
-    requires { i < 4294967296 }
-{
-    let got = lifted_at(rises, i);
-    if i < n {
-        return difference::expect_at(Part::Value, i, rise_of(set, text, hits, i), got);
+) -> Option<Difference> {
+    let end = rises.len().min(1048576);
+    for i in 0..end {
+        let want = if i < n {
+            rise_of(set, text, hits, i)
+        } else {
+            BEFORE
+        };
+        let d = difference::expect_at(Part::Value, i, want, rises[i]);
+        if d.is_some() {
+            return d;
+        }
     }
-    difference::expect_at(Part::Value, i, difference::lift(BEFORE), got)
+    difference::expect(Part::Room, rises.len(), end)
 }
 
 // A second array is expected to hold the rises over the n hits of a list, and behind them what it
 // held before. Where nothing differs, it has a place for each.
-pub fn expect(set: &[u32], text: &[i32], hits: &[u32], n: usize, rises: &[i32]) -> Difference
+pub fn expect(
+    set: &[u32],
+    text: &[i32],
+    hits: &[u32],
+    n: usize,
+    rises: &[i32],
+) -> Option<Difference>
     ensures { is_nothing result ≡ true → n ≤ length rises.now }
 {
-    if n > rises.len() {
-        return difference::expect_size(Part::Room, n, rises.len());
+    let room = expect_room(n, rises);
+    if room.is_some() {
+        return room;
     }
-    let end = arrays::smaller(rises.len(), 1048576);
-    let mut i: usize = 0;
-    while i < end {
-        let d = expect_place(set, text, hits, n, rises, i);
-        if !difference::is_none(d) {
-            return d;
-        }
-        i += 1;
-    }
-    difference::expect_size(Part::Room, rises.len(), end)
-}
-
-// Place i is expected to hold value i of a list, or what it held before.
-fn expect_value(want: &[i32], rises: &[i32], i: usize) -> Difference {
-    let got = lifted_at(rises, i);
-    if i < want.len() {
-        return difference::expect_at(Part::Value, i, lifted_at(want, i), got);
-    }
-    difference::expect_at(Part::Value, i, difference::lift(BEFORE), got)
+    expect_places(set, text, hits, n, rises)
 }
 
 // A second array is expected to begin with these values, and to hold behind them what it held
 // before. Where nothing differs, it has a place for each.
-pub fn expect_front(want: &[i32], rises: &[i32]) -> Difference
+pub fn expect_front(want: &[i32], rises: &[i32]) -> Option<Difference>
     ensures { is_nothing result ≡ true → length want.now ≤ length rises.now }
 {
-    if want.len() > rises.len() {
-        return difference::expect_size(Part::Room, want.len(), rises.len());
+    let room = expect_room(want.len(), rises);
+    if room.is_some() {
+        return room;
     }
-    let mut i: usize = 0;
-    while i < rises.len() {
-        let d = expect_value(want, rises, i);
-        if !difference::is_none(d) {
-            return d;
-        }
-        i += 1;
-    }
-    difference::none()
+    difference::expect_front(Part::Value, want, BEFORE, rises)
 }
 
 // How many values a second array has at least for a hit array of so many words: half as many.

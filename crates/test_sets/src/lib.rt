@@ -1,26 +1,35 @@
-// Sets for test programs, made by the entries of the crate finder. No function asks anything of its
-// caller.
+// Sets for test programs, made by the entries of the crate finder, and calls of the stream search
+// over them. No function asks anything of its caller.
 #![tactic(auto)]
 
 ghost use Rattle.std.specs.Prelude.{◌≡◌, ◌≤◌, ◌<◌};
 ghost use Rattle.lists.specs.Prelude.{length};
 
-use test_inputs::{arrays, texts};
+use answers::{SearchState, Streamed};
+use test_inputs::texts;
+use test_states::Search;
 
 // Writes the empty set.
 pub fn begin(set: &mut [u32])
     ensures { length set.new ≡ length set.old }
 {
-    finder::empty_set(set);
+    let _ = finder::empty_set(set);
 }
 
 // Adds the pattern of the first n values; returns how many they are.
 pub fn add(set: &mut [u32], values: &[i32], n: usize) -> usize
     ensures { (result ≤ n) × (result ≤ length values.now) }
 {
-    let m = arrays::smaller(n, values.len());
-    finder::add_pattern(set, &values[..m]);
+    let m = n.min(values.len());
+    let _ = finder::add_pattern(set, &values[..m]);
     m
+}
+
+// Adds the pattern of the window of n values that begins at a place.
+pub fn add_window(set: &mut [u32], text: &[i32], from: usize, n: usize) -> usize
+    ensures { result ≤ n }
+{
+    add(set, &text[from.min(text.len())..], n)
 }
 
 // Copies a window of the text over the first n values, three times out of four.
@@ -32,51 +41,36 @@ fn copy_window(text: &[i32], values: &mut [i32], n: usize, seed: usize) {
     texts::copy(text, from, values, n);
 }
 
-// Adds a pattern of n values, which are put into the array, the lowest sample for each gap; returns
-// the seed to go on with.
-fn add_filled(
-    set: &mut [u32],
-    values: &mut [i32],
-    text: &[i32],
-    kind: usize,
-    n: usize,
-    seed: usize,
-) -> usize
-    ensures { result < 2147483647 }
-{
-    let s = texts::fill(values, n, kind, seed);
-    copy_window(text, values, n, s);
-    texts::fill_gaps(values, n);
-    add(set, values, n);
-    s
-}
-
-// Adds a pattern of n values, from a seed or, where the text reaches, from a window of it; returns
-// the seed to go on with.
+// Adds a pattern of n values, from a seed or, where the text reaches, from a window of it, with the
+// lowest sample for each gap; returns the seed to go on with.
 pub fn add_made(set: &mut [u32], text: &[i32], kind: usize, n: usize, seed: usize) -> usize
     ensures { result < 2147483647 }
 {
     let mut values = [0i32; 256];
-    add_filled(set, &mut values, text, kind, n, seed)
+    let s = texts::fill(&mut values, n, kind, seed);
+    copy_window(text, &mut values, n, s);
+    texts::fill_gaps(&mut values, n);
+    add(set, &values, n);
+    s
 }
 
 // The set of k patterns of 2 to most + 2 values each; returns the seed to go on with.
+// Six parameters: what a seeded set is made from; each caller gives all of them.
 pub fn make(set: &mut [u32], text: &[i32], kind: usize, k: usize, most: usize, seed: usize) -> usize
     ensures { result < 2147483647 }
 {
-    finder::empty_set(set);
+    let _ = finder::empty_set(set);
     let mut s = texts::next(seed);
-    let mut j: usize = 0;
-    while j < k {
+    for _ in 0..k {
         s = texts::next(s);
         let n = texts::pick(s, most) + 2;
         s = add_made(set, text, kind, n, s);
-        j += 1;
     }
     s
 }
 
 // The last of k patterns; 0 where there is none.
+// No Option: a set without patterns has 0 asked of it, and refuses.
 fn last(k: usize) -> usize
     ensures { result ≤ k }
 {
@@ -84,6 +78,7 @@ fn last(k: usize) -> usize
 }
 
 // The number of the first, the middle, the last or any one of k patterns; 0 where there is none.
+// No Option: a set without patterns has 0 asked of it, and refuses.
 pub fn pattern_number(way: usize, k: usize, seed: usize) -> usize
     ensures { result ≤ k }
 {
@@ -93,4 +88,19 @@ pub fn pattern_number(way: usize, k: usize, seed: usize) -> usize
         2 => last(k),
         _ => texts::pick(seed, last(k)),
     }
+}
+
+// A call of the stream search with the values of the text from those taken up to an end, as far as
+// it reaches.
+pub fn take(
+    search: Search<'_>,
+    state: SearchState,
+    end: usize,
+    hits: &mut [u32],
+    rises: &mut [i32],
+) -> Streamed {
+    let e = end.min(search.text.len());
+    let a = (state.taken as usize).min(e);
+    let values = &search.text[a..e];
+    finder::stream_search(search.set, search.automaton, state, values, hits, rises)
 }

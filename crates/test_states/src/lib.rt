@@ -2,40 +2,36 @@
 // text.
 #![tactic(auto)]
 
-ghost use Rattle.std.specs.Prelude.{◌≡◌, ◌<◌};
+ghost use Rattle.std.specs.Prelude.{◌≡◌};
 ghost use Rattle.lists.specs.Prelude.{true};
-ghost use Rattle.test_differences.specs.Difference.{is_nothing, first_of, compared_words};
-ghost use Rattle.test_states.specs.States.{compared_numbers, compared_slot_values, compared_states};
+ghost use Rattle.test_differences.specs.Difference.{is_nothing};
+ghost use Rattle.test_states.specs.States.{compared_numbers, compared_values, compared_slots, compared_states};
 
 use answers::SearchState;
 use test_differences::difference;
 use test_differences::difference::{Difference, Part};
-use test_inputs::arrays;
 
-// The open minima that were looked for, and what differs in their slots.
+// A text, and the set and the automaton by which it is searched.
 #[derive(Clone, Copy)]
-struct Open {
-    count: usize,
-    difference: Difference,
+pub struct Search<'a> {
+    pub set: &'a [u32],
+    pub automaton: &'a [u32],
+    pub text: &'a [i32],
 }
 
 // The slot of open minimum i is expected to hold the value at place q of the text.
-fn expect_slot(
-    places: &[u32; 256],
-    values: &[i32; 256],
-    slot: usize,
-    i: usize,
-    text: &[i32],
-    q: usize,
-) -> Difference
-    requires { slot < 256 }
-{
+fn expect_slot(state: &SearchState, i: usize, text: &[i32], q: usize) -> Option<Difference> {
     if q >= text.len() {
-        return difference::expect_truth(Part::Taken, true, false);
+        return difference::expect(Part::Taken, true, false);
     }
-    let held = arrays::wide(places[slot]);
-    let place = difference::expect_at(Part::SlotPlace, i, q as u64, held as u64);
-    difference::first(place, difference::expect_value(i, text[q], values[slot]))
+    let slot = (state.first as usize + i % 256) % 256;
+    let held = state.places[slot] as usize;
+    difference::expect_at(Part::SlotPlace, i, q, held).or(difference::expect_at(
+        Part::Value,
+        i,
+        text[q],
+        state.values[slot],
+    ))
 }
 
 // Whether the value at place q is an open minimum of so many values of the text: none from it on is
@@ -47,97 +43,37 @@ fn is_open(text: &[i32], q: usize, taken: usize) -> bool {
     test_plain::closed_at(text, q, taken) >= taken
 }
 
-// The same with one open minimum more, if the value at place q is one.
-fn look_for(
-    places: &[u32; 256],
-    values: &[i32; 256],
-    first: u32,
-    o: Open,
-    text: &[i32],
-    q: usize,
-    taken: usize,
-) -> Open {
-    if !is_open(text, q, taken) {
-        return o;
+// The open minima are expected to be those among the last 256 values of the text as far as it is
+// taken.
+fn expect_minima(state: &SearchState, text: &[i32]) -> Option<Difference> {
+    let taken = state.taken as usize;
+    let mut count: usize = 0;
+    let mut d = None;
+    for q in taken - taken.min(256)..taken {
+        if is_open(text, q, taken) {
+            d = d.or(expect_slot(state, count, text, q));
+            count += 1;
+        }
     }
-    let i = arrays::smaller(o.count, 256);
-    let d = o.difference;
-    let slot = expect_slot(places, values, (arrays::wide(first) + i) % 256, i, text, q);
-    Open {
-        count: i + 1,
-        difference: difference::first(d, slot),
-    }
-}
-
-// The open minima among the last 256 values taken, and what differs in their slots.
-fn look_for_all(
-    places: &[u32; 256],
-    values: &[i32; 256],
-    first: u32,
-    text: &[i32],
-    taken: usize,
-) -> Open {
-    let mut q = if taken > 256 { taken - 256 } else { 0 };
-    let mut o = Open {
-        count: 0,
-        difference: difference::none(),
-    };
-    while q < taken {
-        o = look_for(places, values, first, o, text, q, taken);
-        q += 1;
-    }
-    o
-}
-
-// The open minima are expected to be those of the text as far as it is taken.
-fn expect_minima(state: SearchState, text: &[i32]) -> Difference {
-    let places = state.places;
-    let values = state.values;
-    let o = look_for_all(
-        &places,
-        &values,
-        state.first,
-        text,
-        arrays::wide(state.taken),
-    );
-    let d = o.difference;
-    difference::first(
-        difference::expect_size(Part::Minima, o.count, arrays::wide(state.minima)),
-        d,
-    )
+    difference::expect(Part::Minima, count, state.minima as usize).or(d)
 }
 
 // The node is expected to have the longest suffix of the text, as far as it is taken, that is a
 // head; behind a gap it is the root.
-fn expect_node(
-    set: &[u32],
-    automaton: &[u32],
-    node: usize,
-    text: &[i32],
-    taken: usize,
-) -> Difference {
-    let k = test_plain::pattern_count(set);
-    let n = test_plain::longest_head(set, text, taken);
-    let depth = difference::expect_size(
-        Part::Depth,
-        n,
-        test_automaton::field(automaton, k, node, 0),
-    );
+fn expect_node(search: Search<'_>, node: usize, taken: usize) -> Option<Difference> {
+    let k = test_plain::pattern_count(search.set);
+    let n = test_plain::longest_head(search.set, search.text, taken);
+    let depth = test_automaton::field(search.automaton, k, node, 0);
+    let told = difference::expect(Part::Depth, n, depth);
     if n == 0 {
-        return depth;
+        return told;
     }
     if n > taken {
-        return difference::expect_size(Part::Taken, n, taken);
+        return difference::expect(Part::Taken, n, taken);
     }
-    let last = test_plain::distance(text, taken - n, taken - 1);
-    difference::first(
-        depth,
-        difference::expect_size(
-            Part::LastDistance,
-            last,
-            test_automaton::field(automaton, k, node, 1),
-        ),
-    )
+    let last = test_plain::distance(search.text, taken - n, taken - 1);
+    let distance = test_automaton::field(search.automaton, k, node, 1);
+    told.or(difference::expect(Part::LastDistance, last, distance))
 }
 
 // The value that slot i of those kept must hold once so many values of the text are taken: that of
@@ -154,136 +90,88 @@ fn kept_at(text: &[i32], taken: usize, i: usize) -> i32 {
 }
 
 // The values kept are expected to be the last ones taken of the text.
-fn expect_recent(recent: &[i32; 256], text: &[i32], taken: usize) -> Difference {
-    let mut i: usize = 0;
-    while i < 256 {
-        let d = difference::expect_value(i, kept_at(text, taken, i), recent[i]);
-        if !difference::is_none(d) {
+fn expect_recent(recent: &[i32; 256], text: &[i32], taken: usize) -> Option<Difference> {
+    for i in 0..256 {
+        let d = difference::expect_at(Part::Value, i, kept_at(text, taken, i), recent[i]);
+        if d.is_some() {
             return d;
         }
-        i += 1;
     }
-    difference::none()
+    None
 }
 
 // The open minima and the values kept are expected to be those of the text as far as it is taken,
 // and the first slot to be below 256.
-fn expect_arrays(state: SearchState, text: &[i32], taken: usize) -> Difference {
-    let recent = state.recent;
-    let slot = difference::expect_truth(Part::FirstSlot, true, state.first < 256);
-    difference::first(
-        expect_minima(state, text),
-        difference::first(slot, expect_recent(&recent, text, taken)),
-    )
+fn expect_arrays(state: &SearchState, text: &[i32], taken: usize) -> Option<Difference> {
+    let slot = difference::expect(Part::FirstSlot, true, state.first < 256);
+    expect_minima(state, text)
+        .or(slot)
+        .or(expect_recent(&state.recent, text, taken))
 }
 
 // The state is expected to be that after the first values of the text.
-pub fn expect_after(
-    state: SearchState,
-    set: &[u32],
-    automaton: &[u32],
-    text: &[i32],
-    taken: usize,
-) -> Difference
+pub fn expect_after(state: SearchState, search: Search<'_>, taken: usize) -> Option<Difference>
     ensures { is_nothing result ≡ true → state.taken ≡ taken }
 {
-    let count = difference::expect_size(Part::Taken, taken, arrays::wide(state.taken));
-    if !difference::is_none(count) {
+    let count = difference::expect(Part::Taken, taken, state.taken as usize);
+    if count.is_some() {
         return count;
     }
-    let kept = expect_arrays(state, text, taken);
-    difference::first(
-        kept,
-        expect_node(set, automaton, arrays::wide(state.node), text, taken),
-    )
+    expect_arrays(&state, search.text, taken).or(expect_node(search, state.node as usize, taken))
 }
 
 // The values of slots, held against those expected.
-fn expect_slot_values(expected: &[i32; 256], got: &[i32; 256]) -> Difference
-    ensures { result ≡ compared_slot_values expected.now got.now }
+// Arrays side by side: the same slots of two states.
+fn expect_values(expected: &[i32; 256], got: &[i32; 256]) -> Option<Difference>
+    ensures { result ≡ compared_values expected.now got.now }
 {
-    let i = arrays::alike_values(expected, got);
-    if i >= 256 {
-        return Difference::Nothing;
-    }
-    difference::expect_value(i, expected[i], got[i])
-}
-
-// The slots of a state, held against those expected.
-fn expect_slots(p: &[u32; 256], q: &[u32; 256], v: &[i32; 256], w: &[i32; 256]) -> Difference
-    ensures { result ≡ first_of (compared_words p.now q.now) (compared_slot_values v.now w.now) }
-{
-    let places = difference::expect_words(p, q);
-    difference::first(places, expect_slot_values(v, w))
+    difference::expect_items(Part::Value, expected, got)
 }
 
 // The numbers of a state, held against those expected.
-fn expect_numbers(expected: SearchState, got: SearchState) -> Difference
+fn expect_numbers(expected: SearchState, got: SearchState) -> Option<Difference>
     ensures { result ≡ compared_numbers expected got }
 {
-    let taken = difference::expect(Part::Taken, expected.taken as u64, got.taken as u64);
-    let node = difference::expect(Part::Node, expected.node as u64, got.node as u64);
-    let minima = difference::expect(Part::Minima, expected.minima as u64, got.minima as u64);
-    let slot = difference::expect(Part::FirstSlot, expected.first as u64, got.first as u64);
-    difference::first(
-        difference::first(taken, node),
-        difference::first(minima, slot),
-    )
+    difference::expect(Part::Taken, expected.taken, got.taken)
+        .or(difference::expect(Part::Node, expected.node, got.node))
+        .or(difference::expect(Part::Minima, expected.minima, got.minima))
+        .or(difference::expect(Part::FirstSlot, expected.first, got.first))
+}
+
+// The arrays of a state, held against those expected.
+fn expect_slots(expected: SearchState, got: SearchState) -> Option<Difference>
+    ensures { result ≡ compared_slots expected got }
+{
+    difference::expect_words(&expected.places, &got.places)
+        .or(expect_values(&expected.values, &got.values))
+        .or(expect_values(&expected.recent, &got.recent))
 }
 
 // A state, held against the one expected, to the last slot. Nothing differs exactly if it is that
 // one.
-pub fn expect_same(expected: SearchState, got: SearchState) -> Difference
+pub fn expect_same(expected: SearchState, got: SearchState) -> Option<Difference>
     ensures { (result ≡ compared_states expected got) × (is_nothing result ≡ true → expected ≡ got) × (expected ≡ got → is_nothing result ≡ true) }
 {
-    let p = expected.places;
-    let q = got.places;
-    let v = expected.values;
-    let w = got.values;
-    let x = expected.recent;
-    let y = got.recent;
-    let slots = expect_slots(&p, &q, &v, &w);
-    let kept = expect_slot_values(&x, &y);
-    difference::first(
-        expect_numbers(expected, got),
-        difference::first(slots, kept),
-    )
+    expect_numbers(expected, got).or(expect_slots(expected, got))
 }
 
 // The state at another node, or with another number of values taken.
 pub fn changed(s: SearchState, node: u32, taken: u32) -> SearchState
     ensures { (result.node ≡ node) × (result.taken ≡ taken) }
 {
-    let places = s.places;
-    let values = s.values;
-    let recent = s.recent;
-    SearchState {
-        taken,
-        node,
-        minima: s.minima,
-        first: s.first,
-        places,
-        values,
-        recent,
-    }
+    let mut t = s;
+    t.node = node;
+    t.taken = taken;
+    t
 }
 
 // The state whose ring starts at another slot.
 pub fn started_at(s: SearchState, first: u32) -> SearchState
     ensures { (result.first ≡ first) × (result.taken ≡ s.taken) × (result.node ≡ s.node) × (result.minima ≡ s.minima) }
 {
-    let places = s.places;
-    let values = s.values;
-    let recent = s.recent;
-    SearchState {
-        taken: s.taken,
-        node: s.node,
-        minima: s.minima,
-        first,
-        places,
-        values,
-        recent,
-    }
+    let mut t = s;
+    t.first = first;
+    t
 }
 
 // The state that keeps another value for a place.
@@ -291,27 +179,15 @@ pub fn keeping(s: SearchState, place: u32, value: i32) -> SearchState
     ensures { (result.taken ≡ s.taken) × (result.node ≡ s.node) × (result.minima ≡ s.minima) × (result.first ≡ s.first)
         × (result.places ≡ s.places) × (result.values ≡ s.values) }
 {
-    let places = s.places;
-    let values = s.values;
-    let mut recent = s.recent;
-    recent[(place % 256) as usize] = value;
-    SearchState {
-        taken: s.taken,
-        node: s.node,
-        minima: s.minima,
-        first: s.first,
-        places,
-        values,
-        recent,
-    }
+    let mut t = s;
+    t.recent[(place % 256) as usize] = value;
+    t
 }
 
 // Keeps gaps for the places from one up to another one, without that.
 fn keep_gaps(recent: &mut [i32; 256], from: u32, to: u32) {
-    let mut p = from;
-    while p < to {
+    for p in from..to {
         recent[(p % 256) as usize] = -2147483648;
-        p += 1;
     }
 }
 
@@ -321,17 +197,10 @@ pub fn cleared(s: SearchState, taken: u32) -> SearchState
     ensures { (result.node ≡ 0) × (result.taken ≡ taken) × (result.minima ≡ 0) × (result.first ≡ s.first)
         × (result.places ≡ s.places) × (result.values ≡ s.values) }
 {
-    let places = s.places;
-    let values = s.values;
-    let mut recent = s.recent;
-    keep_gaps(&mut recent, s.taken, taken);
-    SearchState {
-        taken,
-        node: 0,
-        minima: 0,
-        first: s.first,
-        places,
-        values,
-        recent,
-    }
+    let mut t = s;
+    keep_gaps(&mut t.recent, s.taken, taken);
+    t.taken = taken;
+    t.node = 0;
+    t.minima = 0;
+    t
 }

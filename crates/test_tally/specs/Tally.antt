@@ -1,6 +1,6 @@
 -- Cases counted, by numbers of 64 bits.
 use Rattle.std.specs.Prelude.{◌+◌, ◌%◌, ◌^◌}
-use Rattle.lists.specs.Prelude.{cond}
+use Rattle.lists.specs.Prelude.{cond, Option}
 use Rattle.test_differences.specs.declared.difference.Difference.{Difference}
 use Rattle.test_differences.specs.Difference.{is_nothing}
 use Rattle.test_tally.specs.declared.Tally.{Tally}
@@ -10,7 +10,7 @@ abbrev pub no_cases : Tally
 no_cases = record { cases = 0; failed = 0 }
 
 -- one more case, which failed where something differs
-abbrev pub counted : Tally → Difference → Tally
+abbrev pub counted : Tally → Option Difference → Tally
 counted t d = record {
   cases = (t.cases + 1) % 2 ^ 64;
   failed = cond (is_nothing d) t.failed ((t.failed + 1) % 2 ^ 64);

@@ -2,7 +2,7 @@
 -- entry's result.
 use Rattle.std.specs.Prelude.{◌≡◌, ◌∷◌, ◌++◌, ◌+◌, ◌-◌, ◌≤◌, ◌<◌}
 use Rattle.lists.proofs.Prelude.{◌∙◌, ap, subst, List, [], map, flatten, ℕ, suc, length, get_or, take, drop, set, replicate}
-use Rattle.lists.proofs.Prelude.{length-append, length-drop, length-take-le, length-replicate, get_or-set_other, take-take, arith}
+use Rattle.lists.proofs.Prelude.{length-append, length-drop, length-take-le, get_or-set_other, take-take, arith}
 use Rattle.lists.proofs.Rows.{flatten-append, length-flatten-take}
 use Rattle.pattern_set.specs.PatternSet.{PatternSet, set_words, patterns_of, without}
 use Rattle.pattern_set.proofs.Words.{length-set_words}
@@ -14,9 +14,9 @@ use Rattle.entries.proofs.Sets.{withdraw_accepted}
 use Rattle.withdraw_pattern.specs.Replaced.{replaced}
 use Rattle.withdraw_pattern.proofs.Replacing.{Over, length-Over, replaced_behind}
 use Rattle.withdraw_pattern.proofs.Removing.{counted, lowered, joined, length-lowered, length-joined, count_less, lower, join, close}
-use Rattle.withdraw_pattern.proofs.Sizes.{Sizes, end_is, bounds}
+use Rattle.withdraw_pattern.proofs.Sizes.{Sizes, bounds}
 
-module _ {ws : List ℕ} {j k start m end : ℕ} (s : Sizes ws j k start m end) where
+module _ {ws : List ℕ} {j k n o m : ℕ} (s : Sizes ws j k n o m) where
   abbrev ps : PatternSet
   ps = patterns_of ws
 
@@ -73,17 +73,17 @@ module _ {ws : List ℕ} {j k start m end : ℕ} (s : Sizes ws j k start m end) 
   abbrev pub Cleared : List ℕ → Type 0
   Cleared vs = Over (set_words (without j ps) ++ replicate (1 + m) 0) ws vs
 
-  pub is-Counted : Counted (set (set ws 0 (k - 1)) 1 (end - 3 - k - m))
-  is-Counted = count_less b a p ws rest is (k - 1) (end - 3 - k - m) (omega (arith, length-b, length-a))
-      (omega (arith, length-append (flatten b) (flatten a), total, end_is s, s.patterns))
+  pub is-Counted : Counted (set (set ws 0 (k - 1)) 1 (n - m))
+  is-Counted = count_less b a p ws rest is (k - 1) (n - m) (omega (arith, length-b, length-a))
+      (omega (arith, length-append (flatten b) (flatten a), total, s.distances, s.patterns, s.patterns))
 
   -- the offsets behind are at least m
-  pub offsets_ge : (i : ℕ) → i < k - j → m ≤ get_or (set (set ws 0 (k - 1)) 1 (end - 3 - k - m)) (2 + j + 1 + i) 0
+  pub offsets_ge : (i : ℕ) → i < k - j → m ≤ get_or (set (set ws 0 (k - 1)) 1 (n - m)) (2 + j + 1 + i) 0
   offsets_ge i h =
       let g = s.good in
       let q : 2 + j + 1 + i ≡ 2 + (suc j + i) = omega arith in
-      let word : get_or (set (set ws 0 (k - 1)) 1 (end - 3 - k - m)) (2 + j + 1 + i) 0 ≡ length (flatten (take (suc j + i) ps)) =
-      get_or-set_other (set ws 0 (k - 1)) 1 (2 + j + 1 + i) (end - 3 - k - m) 0 (λ e. omega arith)
+      let word : get_or (set (set ws 0 (k - 1)) 1 (n - m)) (2 + j + 1 + i) 0 ≡ length (flatten (take (suc j + i) ps)) =
+      get_or-set_other (set ws 0 (k - 1)) 1 (2 + j + 1 + i) (n - m) 0 (λ e. omega arith)
       ∙ get_or-set_other ws 0 (2 + j + 1 + i) (k - 1) 0 (λ e. omega arith)
       ∙ ap (λ (n : ℕ). get_or ws n 0) q
       ∙ word_offset ws g (suc j + i) (omega (arith, s.patterns)) in
@@ -98,17 +98,17 @@ module _ {ws : List ℕ} {j k start m end : ℕ} (s : Sizes ws j k start m end) 
   pub Lowered-length : (vs : List ℕ) → Lowered vs → length vs ≡ length ws
   Lowered-length vs e = length-Over (lowered b a) ws vs (omega (arith, length-lowered b a, length-b, length-a, bounds s)) e
 
-  pub is-Joined : (vs : List ℕ) → Lowered vs → Joined (replaced (2 + k) (take (start - 3 - k) (drop (2 + k + 1) vs)) vs)
-  is-Joined vs e = join b a p ws rest is vs (2 + k) (start - 3 - k) (omega (arith, length-b, length-a)) (omega (arith, s.begins, s.patterns)) e
+  pub is-Joined : (vs : List ℕ) → Lowered vs → Joined (replaced (2 + k) (take (3 + k + o - 3 - k) (drop (2 + k + 1) vs)) vs)
+  is-Joined vs e = join b a p ws rest is vs (2 + k) (3 + k + o - 3 - k) (omega (arith, length-b, length-a)) (omega (arith, s.begins, s.patterns)) e
 
   pub Joined-length : (vs : List ℕ) → Joined vs → length vs ≡ length ws
-  Joined-length vs e = length-Over (joined b a) ws vs (omega (arith, length-joined b a, length-b, length-a, total, end_is s, bounds s)) e
+  Joined-length vs e = length-Over (joined b a) ws vs (omega (arith, length-joined b a, length-b, length-a, total, s.distances, s.patterns, bounds s)) e
 
-  pub is-Closed : (vs : List ℕ) → Joined vs → Closed (replaced (start - 1) (take (end - start - m) (drop (start - 1 + (1 + m)) vs)) vs)
+  pub is-Closed : (vs : List ℕ) → Joined vs → Closed (replaced (3 + k + o - 1) (take (3 + k + n - (3 + k + o) - m) (drop (3 + k + o - 1 + (1 + m)) vs)) vs)
   unfolding without
   is-Closed vs e =
-      close b a p ws rest is vs (start - 1) (1 + m) (end - start - m) (omega (arith, s.begins, s.patterns, length-b, length-a))
-      (omega (arith, s.long)) (omega (arith, total, end_is s, s.begins)) e
+      close b a p ws rest is vs (3 + k + o - 1) (1 + m) (3 + k + n - (3 + k + o) - m) (omega (arith, s.begins, s.patterns, length-b, length-a))
+      (omega (arith, s.long)) (omega (arith, total, s.distances, s.patterns, s.begins)) e
 
   pub Closed-length : (vs : List ℕ) → Closed vs → length vs ≡ length ws
   Closed-length vs e =
@@ -117,22 +117,14 @@ module _ {ws : List ℕ} {j k start m end : ℕ} (s : Sizes ws j k start m end) 
       length-Over (set_words qs) ws vs
       (omega (arith, l, length-without ps j s.below, distances_without ps j s.below, set_fits ws s.good)) e
 
-  pub is-Cleared : (vs : List ℕ) → Closed vs → Cleared (replaced (end - 1 - m) (replicate (1 + m) 0) vs)
+  pub is-Cleared : (vs : List ℕ) → Closed vs → Cleared (replaced (3 + k + n - 1 - m) (replicate (1 + m) 0) vs)
   is-Cleared vs e =
       let qs = without j ps in
-      replaced_behind (set_words qs) (replicate (1 + m) 0) ws vs (end - 1 - m)
-      (omega (arith, length-set_words qs, end_is s, length-without ps j s.below, distances_without ps j s.below, s.long)) e
+      replaced_behind (set_words qs) (replicate (1 + m) 0) ws vs (3 + k + n - 1 - m)
+      (omega (arith, length-set_words qs, s.distances, s.patterns, length-without ps j s.below, distances_without ps j s.below, s.long)) e
 
   unused : 1 + m ≡ length (set_words ps) - length (set_words (without j ps))
   unused = omega (arith, words_without ps j s.below, s.long)
-
-  pub Cleared-length : (vs : List ℕ) → Cleared vs → length vs ≡ length ws
-  Cleared-length vs e =
-      let qs = without j ps in
-      let zeros : List ℕ = replicate (1 + m) 0 in
-      let l : length zeros ≡ 1 + m = length-replicate (1 + m) 0 in
-      length-Over (set_words qs ++ zeros) ws vs
-      (omega (arith, length-append (set_words qs) zeros, l, unused, length-set_words qs, length-set_words ps, set_fits ws s.good)) e
 
   pub Cleared-after : (vs : List ℕ) → Cleared vs → vs ≡ after (withdraw_entry ws j) ws
   Cleared-after vs e =

@@ -1,7 +1,17 @@
-// Words of an array, written from the front on.
+// Words of an array, moved towards its front.
 ghost use Rattle.std.specs.Prelude.{◌≡◌, ◌+◌, ◌-◌, ◌≤◌, ◌<◌};
 ghost use Rattle.lists.specs.Prelude.{map, ℕ, length, get_or, take, drop, replicate};
 ghost use Rattle.withdraw_pattern.specs.Replaced.{replaced};
+
+// Makes each number smaller by m.
+fn lower(numbers: &mut [u32], m: u32)
+    requires { (i : ℕ) → i < length numbers.old → m ≤ get_or numbers.old i 0 }
+    ensures { numbers.new ≡ map (λ w. w - m) numbers.old }
+{
+    for i in 0..numbers.len() {
+        numbers[i] -= m;
+    }
+}
 
 // Moves the n words behind `at` down by one, each made smaller by m.
 pub fn lower_offsets(words: &mut [u32], at: usize, n: usize, m: u32)
@@ -9,11 +19,8 @@ pub fn lower_offsets(words: &mut [u32], at: usize, n: usize, m: u32)
     requires by_index { (i : ℕ) → i < n → m ≤ get_or words.old (at + 1 + i) 0 }
     ensures { words.new ≡ replaced at (map (λ w. w - m) (take n (drop (at + 1) words.old))) words.old }
 {
-    let mut i = 0;
-    while i < n {
-        words[at + i] = words[at + 1 + i] - m;
-        i += 1;
-    }
+    words.copy_within(at + 1..at + 1 + n, at);
+    lower(&mut words[at..at + n], m);
 }
 
 // Moves the n words that begin `by` words behind `at` down to `at`.
@@ -21,11 +28,7 @@ pub fn move_down(words: &mut [u32], at: usize, by: usize, n: usize)
     requires { at + by + n ≤ length words.old }
     ensures { words.new ≡ replaced at (take n (drop (at + by) words.old)) words.old }
 {
-    let mut i = 0;
-    while i < n {
-        words[at + i] = words[at + by + i];
-        i += 1;
-    }
+    words.copy_within(at + by..at + by + n, at);
 }
 
 // Sets the n words from `at` on to 0.
@@ -33,9 +36,5 @@ pub fn clear(words: &mut [u32], at: usize, n: usize)
     requires { at + n ≤ length words.old }
     ensures { words.new ≡ replaced at (replicate n 0) words.old }
 {
-    let mut i = 0;
-    while i < n {
-        words[at + i] = 0;
-        i += 1;
-    }
+    words[at..at + n].fill(0);
 }

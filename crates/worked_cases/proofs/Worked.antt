@@ -11,7 +11,7 @@ use Rattle.realization.specs.Realization.{realizable, left_turns, least_realizat
 use Rattle.global_parents.specs.GlobalParents.{last_left_child, is_prefix_child, global_parent, global_parents}
 use Rattle.ranking.specs.Rank.{factorial, rank_from, unrank, is_rank}
 use Rattle.matching.specs.Matching.{has_tree, numbers_from, end_hits, hits_at, hits, hit_words}
-use Rattle.worked_cases.specs.Table.{Case, table}
+use Rattle.worked_cases.specs.Table.{Case, AllHold, table}
 
 equal : ℤ → ℤ → Bool
 equal (pos a) (pos b) = eqb a b
@@ -44,11 +44,6 @@ alike_eq (x ∷ xs) (y ∷ ys) t =
 hold : List Case → Bool
 hold [] = true
 hold (c ∷ cs) = alike c.given c.expected && hold cs
-
--- every case of a list holds
-abbrev pub AllHold : List Case → Type 0
-AllHold [] = Unit {0}
-AllHold (c ∷ cs) = (c.given ≡ c.expected) × AllHold cs
 
 all_hold : (cs : List Case) → T (hold cs) → AllHold cs
 unfolding hold

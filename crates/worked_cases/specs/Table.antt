@@ -1,6 +1,6 @@
 -- The starred worked cases of document 01 ('Readings worked through'), as one table: what a
 -- definition gives, and what document 01 says that it is.
-use Rattle.std.specs.Prelude.{◌∷◌}
+use Rattle.std.specs.Prelude.{◌≡◌, ◌∷◌}
 use Rattle.lists.specs.Prelude.{List, [], map, ℕ, ℤ, pos}
 use Rattle.cartesian.specs.Cartesian.{distances}
 use Rattle.realization.specs.Realization.{least_realization, failure_lengths}
@@ -29,6 +29,11 @@ pub record Case : Type 0 where
 -- a case over words
 abbrev pub is : List ℕ → List ℕ → Case
 is ws vs = record { given = values ws; expected = values vs }
+
+-- every case of a list holds
+abbrev pub AllHold : List Case → Type 0
+AllHold [] = Unit {0}
+AllHold (c ∷ cs) = (c.given ≡ c.expected) × AllHold cs
 
 unfoldable pub table : List Case
 table =

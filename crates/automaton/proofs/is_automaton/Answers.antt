@@ -1,7 +1,7 @@
 -- `is_automaton` meets its contract: with the front the number of nodes is known, so that the
 -- length can be tested, and then the records.
 use Rattle.std.specs.Prelude.{◌≡◌, ◌+◌, ◌*◌, ◌<◌, ◌≤◌}
-use Rattle.lists.proofs.Prelude.{◌∙◌, sym, length, take, arith, not-false}
+use Rattle.lists.proofs.Prelude.{◌∙◌, sym, length, get_or, take, arith, not-false}
 use Rattle.lists.proofs.Same.{true-same}
 use Rattle.automaton_model.specs.Automaton.{nodes, automaton_words}
 use Rattle.automaton_model.proofs.Lengths.{length_automaton}
@@ -12,95 +12,83 @@ use Rattle.set_access.proofs.Laws.{count_le}
 use Rattle.automaton_rows.proofs.Sizes.{nodes_small}
 use Rattle.automaton.proofs.Entries.{front_differs, words_short, front_fits, front_count, front-Made}
 use Rattle.lists.proofs.Prelude.{rules}
-use Rattle.automaton.proofs.is_automaton.Goals.{After-pattern_count-k, After-wide-count, Else-not-is_front}
+use Rattle.automaton.proofs.is_automaton.Goals.{After-len-k, Else-not-is_front}
 use Rattle.automaton.proofs.is_automaton.Goals as goal
 
 -- the words have the front
 front : (c : Else-not-is_front) →
-    let k = c.pattern_count-k.result in
+    let k = c.len-k.result in
     take (2 * k + 1) c.args.words.now ≡ take (2 * k + 1) (automaton_words (patterns_of c.args.set.now))
 front c = true-same _ _ (sym c.is_front.ensures ∙ not-false _ c.if-not-is_front.false-raw)
 
 -- and so the number of nodes
-nodes-known : (c : After-wide-count) → c.wide-count.result ≡ length (nodes (patterns_of c.args.set.now))
+nodes-known : (c : Else-not-is_front) → get_or c.args.words.now (2 * c.len-k.result) 0 ≡ length (nodes (patterns_of c.args.set.now))
 nodes-known c =
-    c.wide-count.ensures
-    ∙ front_count c.args.set.now c.args.words.now c.requires.set c.requires.nonzero c.pattern_count-k.result c.pattern_count-k.ensures
-    (front (goal.at.After-wide-count c).Else-not-is_front)
+    front_count c.args.set.now c.args.words.now c.requires.set c.requires.nonzero c.len-k.result (rw c.of.ensures at c.len-k.ensures.count)
+    (front c)
 
 -- and neither number is large
-sizes : (c : After-pattern_count-k) → c.pattern_count-k.result ≤ 64
-sizes c = omega (arith, count_le c.args.set.now c.requires.set, c.pattern_count-k.ensures)
+sizes : (c : After-len-k) → c.len-k.result ≤ 64
+sizes c = omega (arith, count_le c.args.set.now c.requires.set, (rw c.of.ensures at c.len-k.ensures.count))
 
-few : (c : After-wide-count) → c.wide-count.result ≤ 4097
+few : (c : Else-not-is_front) → get_or c.args.words.now (2 * c.len-k.result) 0 ≤ 4097
 few c =
     omega (arith, nodes_small c.args.set.now c.requires.set, nodes-known c)
 
 -- there is a node
-rooted : (c : After-wide-count) → 0 < c.wide-count.result
+rooted : (c : Else-not-is_front) → 0 < get_or c.args.words.now (2 * c.len-k.result) 0
 rooted c =
     omega (arith, nodes-known c, (node_root (patterns_of c.args.set.now) (set_good c.args.set.now c.requires.set) c.requires.nonzero).2)
-
-pub pattern_count-k-requires : goal.pattern_count-k-requires
-pattern_count-k-requires c = c.requires.set
 
 pub is_front-requires : goal.is_front-requires
 is_front-requires c = record {
   set = c.requires.set;
-  k_value = c.pattern_count-k.ensures;
+  k_value = (rw c.of.ensures at c.len-k.ensures.count);
 }
 
 pub returns-then-not-is_front : goal.returns-then-not-is_front
 returns-then-not-is_front c =
     sym
-    (front_differs c.args.set.now c.args.words.now c.requires.set c.requires.nonzero c.pattern_count-k.result c.pattern_count-k.ensures
+    (front_differs c.args.set.now c.args.words.now c.requires.set c.requires.nonzero c.len-k.result (rw c.of.ensures at c.len-k.ensures.count)
     (sym c.is_front.ensures ∙ c.if-not-is_front.true))
 
 pub overflow_mul-k : goal.overflow_mul-k
 overflow_mul-k c =
-    let h = sizes (goal.at.overflow_mul-k c).After-pattern_count-k in
+    let h = sizes (goal.at.overflow_mul-k c).After-len-k in
     search rules
 
 pub offset_bounds-words-k : goal.offset_bounds-words-k
 offset_bounds-words-k c =
-    let h = sizes (goal.at.offset_bounds-words-k c).After-pattern_count-k in
+    let h = sizes (goal.at.offset_bounds-words-k c).After-len-k in
     search rules
 
 pub bounds-words-k : goal.bounds-words-k
 bounds-words-k c =
-    let n = c.pattern_count-k in
     omega (
       arith,
-      front_fits c.args.set.now c.args.words.now c.requires.set c.requires.nonzero n.result n.ensures
+      front_fits c.args.set.now c.args.words.now c.requires.set c.requires.nonzero c.len-k.result (rw c.of.ensures at c.len-k.ensures.count)
           (front (goal.at.bounds-words-k c).Else-not-is_front),
     )
 
-pub overflow_mul-k-2 : goal.overflow_mul-k-2
-overflow_mul-k-2 c =
-    let h = sizes (goal.at.overflow_mul-k-2 c).After-pattern_count-k in
-    let n = few (goal.at.overflow_mul-k-2 c).After-wide-count in
-    let z = rooted (goal.at.overflow_mul-k-2 c).After-wide-count in
-    search rules
-
 pub overflow_mul-count : goal.overflow_mul-count
 overflow_mul-count c =
-    let h = sizes (goal.at.overflow_mul-count c).After-pattern_count-k in
-    let n = few (goal.at.overflow_mul-count c).After-wide-count in
-    let z = rooted (goal.at.overflow_mul-count c).After-wide-count in
+    let h = sizes (goal.at.overflow_mul-count c).After-len-k in
+    let n = few (goal.at.overflow_mul-count c).Else-not-is_front in
+    let z = rooted (goal.at.overflow_mul-count c).Else-not-is_front in
     search rules
 
 pub overflow_add-k : goal.overflow_add-k
 overflow_add-k c =
-    let h = sizes (goal.at.overflow_add-k c).After-pattern_count-k in
-    let n = few (goal.at.overflow_add-k c).After-wide-count in
-    let z = rooted (goal.at.overflow_add-k c).After-wide-count in
+    let h = sizes (goal.at.overflow_add-k c).After-len-k in
+    let n = few (goal.at.overflow_add-k c).Else-not-is_front in
+    let z = rooted (goal.at.overflow_add-k c).Else-not-is_front in
     search rules
 
 pub overflow_sub-k : goal.overflow_sub-k
 overflow_sub-k c =
-    let h = sizes (goal.at.overflow_sub-k c).After-pattern_count-k in
-    let n = few (goal.at.overflow_sub-k c).After-wide-count in
-    let z = rooted (goal.at.overflow_sub-k c).After-wide-count in
+    let h = sizes (goal.at.overflow_sub-k c).After-len-k in
+    let n = few (goal.at.overflow_sub-k c).Else-not-is_front in
+    let z = rooted (goal.at.overflow_sub-k c).Else-not-is_front in
     search rules
 
 pub returns-then-words-k : goal.returns-then-words-k
@@ -111,24 +99,24 @@ returns-then-words-k c =
       arith,
       c.if-words-k.true,
       length_automaton (patterns_of c.args.set.now),
-      nodes-known (goal.at.returns-then-words-k c).After-wide-count,
-      rooted (goal.at.returns-then-words-k c).After-wide-count,
-      c.pattern_count-k.ensures,
+      nodes-known (goal.at.returns-then-words-k c).Else-not-is_front,
+      rooted (goal.at.returns-then-words-k c).Else-not-is_front,
+      (rw c.of.ensures at c.len-k.ensures.count),
     )))
 
 pub are_records-requires : goal.are_records-requires
 are_records-requires c = record {
-  made = front-Made c.args.set.now c.args.words.now c.requires.set c.requires.nonzero c.pattern_count-k.result c.pattern_count-k.ensures
+  made = front-Made c.args.set.now c.args.words.now c.requires.set c.requires.nonzero c.len-k.result (rw c.of.ensures at c.len-k.ensures.count)
       (front (goal.at.are_records-requires c).Else-not-is_front)
       (omega (
         arith,
         c.if-words-k.false,
         length_automaton (patterns_of c.args.set.now),
-        nodes-known (goal.at.are_records-requires c).After-wide-count,
-        rooted (goal.at.are_records-requires c).After-wide-count,
-        c.pattern_count-k.ensures,
+        nodes-known (goal.at.are_records-requires c).Else-not-is_front,
+        rooted (goal.at.are_records-requires c).Else-not-is_front,
+        (rw c.of.ensures at c.len-k.ensures.count),
       ));
-  count_value = nodes-known (goal.at.are_records-requires c).After-wide-count;
+  count_value = nodes-known (goal.at.are_records-requires c).Else-not-is_front;
 }
 
 pub returns : goal.returns

@@ -2,7 +2,7 @@
 -- leads from that of its parent (`link_child`); the children of the root fail to it (`link_root`).
 use Rattle.std.specs.Prelude.{◌∷◌, ◌++◌, ◌<◌}
 use Rattle.lists.proofs.Prelude.{◌∙◌, ap, sym, [], ℕ, length, arith}
-use Rattle.pattern_set.specs.PatternSet.{patterns_of}
+use Rattle.automaton_lookup.specs.View.{patterns}
 use Rattle.matching.specs.Matching.{failure}
 use Rattle.automaton_model.specs.Automaton.{nodes, head_of, node_of}
 use Rattle.automaton_model.proofs.Children.{first_child_rises}
@@ -12,21 +12,20 @@ use Rattle.automaton_records.proofs.failure_of.Goals as goal
 
 pub returns-then-parent-eq0 : goal.returns-then-parent-eq0
 returns-then-parent-eq0 c =
-    let ps = patterns_of c.args.set.now in
+    let ps = patterns c.args.records.now in
     let v = c.args.label in
-    link_root ps (made_good c.requires.made) c.requires.made.filled v
+    link_root ps (made_good c.args.records.now.begun) c.args.records.now.begun.filled v
     ∙ ap (λ (p : ℕ). node_of ps (failure ps (head_of ps p ++ (v ∷ [])))) (sym c.if-parent-eq0.true)
 
-pub advance-step-requires : goal.advance-step-requires
-advance-step-requires c =
-    let ps = patterns_of c.args.set.now in
+pub advance-requires : goal.advance-requires
+advance-requires c =
+    let ps = patterns c.args.records.now in
     let p = c.args.parent in
     let link = c.failure-link.result in
-    let f = failure_below ps (made_good c.requires.made) c.requires.made.filled p link (omega (arith, c.if-parent-eq0.false))
-    (omega (arith, c.requires.made.within)) c.failure-link.ensures in
+    let f = failure_below ps (made_good c.args.records.now.begun) c.args.records.now.begun.filled p link (omega (arith, c.if-parent-eq0.false))
+    (omega (arith, c.args.records.now.begun.within)) c.failure-link.ensures in
     let r = first_child_rises ps link p f in
     record {
-      made = c.requires.made;
       node_lt_made = (omega arith, omega arith);
     }
 
@@ -34,7 +33,8 @@ pub returns : goal.returns
 returns c =
     let p = c.args.parent in
     let l : 0 < p = omega (arith, c.if-parent-eq0.false) in
-    let h : p < length (nodes (patterns_of c.args.set.now)) = omega (arith, c.requires.made.within) in
-    c.advance-step.ensures.node
-    ∙ link_child (patterns_of c.args.set.now) (made_good c.requires.made) c.requires.made.filled p c.args.label l h c.requires.t c.failure-link.result
+    let h : p < length (nodes (patterns c.args.records.now)) = omega (arith, c.args.records.now.begun.within) in
+    c.advance.ensures.node
+    ∙ link_child (patterns c.args.records.now) (made_good c.args.records.now.begun) c.args.records.now.begun.filled p c.args.label l h c.requires.t
+    c.failure-link.result
     c.failure-link.ensures

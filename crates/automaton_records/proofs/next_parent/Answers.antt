@@ -2,31 +2,34 @@
 -- soon as its children do not all come before n; the measure is how far it is from it.
 use Rattle.std.specs.Prelude.{◌≡◌, ◌+◌, ◌<◌}
 use Rattle.lists.proofs.Prelude.{ap, arith}
-use Rattle.pattern_set.specs.PatternSet.{patterns_of}
+use Rattle.automaton_lookup.specs.View.{patterns}
 use Rattle.automaton_lookup.proofs.Words.{made_good}
 use Rattle.automaton_model.specs.Automaton.{children, first_child}
 use Rattle.automaton_model.proofs.Children.{parent_node}
 use Rattle.automaton_records.proofs.Parents.{parent_range, parent_smaller, parent_from, parent_later, parent_found}
 use Rattle.lists.proofs.Prelude.{rules}
-use Rattle.automaton_records.proofs.next_parent.Goals.{Else-n-children_end, Start}
+use Rattle.automaton_records.proofs.next_parent.Goals.{In-loop-p, Start}
 use Rattle.automaton_records.proofs.next_parent.Goals as goal
 
 -- the parent has the smaller number
-smaller : (c : Start) → parent_node (patterns_of c.args.set.now) c.args.n < c.args.n
+smaller : (c : Start) → parent_node (patterns c.args.records.now) c.args.records.now.made < c.args.records.now.made
 smaller c =
-    parent_smaller (patterns_of c.args.set.now) (made_good c.requires.made) c.requires.made.filled c.args.n c.requires.n_nonzero.0 c.requires.n_nonzero.1
+    parent_smaller (patterns c.args.records.now) (made_good c.args.records.now.begun) c.args.records.now.begun.filled c.args.records.now.made
+    c.requires.n_nonzero.0 c.requires.n_nonzero.1
 
 -- a node whose children all come before n is before the parent
-later : (c : Else-n-children_end) →
-    c.loop-k.p < parent_node (patterns_of c.args.set.now) c.args.n
+later : (c : In-loop-p) →
+    c.loop-p.p < parent_node (patterns c.args.records.now) c.args.records.now.made
 later c =
-    parent_later (patterns_of c.args.set.now) (made_good c.requires.made) c.requires.made.filled c.args.n c.requires.n_nonzero.0 c.requires.n_nonzero.1
-    c.loop-k.p
-    (omega (arith, c.children_end.ensures, c.if-n-children_end.false))
+    parent_later (patterns c.args.records.now) (made_good c.args.records.now.begun) c.args.records.now.begun.filled c.args.records.now.made
+    c.requires.n_nonzero.0 c.requires.n_nonzero.1
+    c.loop-p.p
+    (omega (arith, c.children_end.ensures, c.loop-p-test.true))
 
-pub loop-k-init : goal.loop-k-init
-loop-k-init c =
-    parent_from (patterns_of c.args.set.now) (made_good c.requires.made) c.requires.made.filled c.args.n c.requires.n_nonzero.0 c.requires.n_nonzero.1
+pub loop-p-init : goal.loop-p-init
+loop-p-init c =
+    parent_from (patterns c.args.records.now) (made_good c.args.records.now.begun) c.args.records.now.begun.filled c.args.records.now.made
+    c.requires.n_nonzero.0 c.requires.n_nonzero.1
     c.args.parent c.requires.parent_bound
 
 pub children_end-requires : goal.children_end-requires
@@ -34,14 +37,14 @@ children_end-requires c =
     let b = smaller (goal.at.children_end-requires c).Start in
     search rules
 
-pub returns-then-n-children_end : goal.returns-then-n-children_end
-returns-then-n-children_end c =
-    let ps = patterns_of c.args.set.now in
-    let n = c.args.n in
-    let g = made_good c.requires.made in
-    let z = c.requires.made.filled in
-    let q : n < first_child ps c.loop-k.p + children ps c.loop-k.p = omega (arith, c.children_end.ensures, c.if-n-children_end.true) in
-    let e : c.loop-k.p ≡ parent_node ps n = parent_found ps g z n c.requires.n_nonzero.0 c.requires.n_nonzero.1 c.loop-k.p c.loop-k.invariant q in
+pub returns : goal.returns
+returns c =
+    let ps = patterns c.args.records.now in
+    let n = c.args.records.now.made in
+    let g = made_good c.args.records.now.begun in
+    let z = c.args.records.now.begun.filled in
+    let q : n < first_child ps c.loop-p.p + children ps c.loop-p.p = omega (arith, c.children_end.ensures, c.loop-p-test.false) in
+    let e : c.loop-p.p ≡ parent_node ps n = parent_found ps g z n c.requires.n_nonzero.0 c.requires.n_nonzero.1 c.loop-p.p c.loop-p.invariant q in
     let r = parent_range ps g z n c.requires.n_nonzero.0 c.requires.n_nonzero.1 in
     (omega (arith, ap (first_child ps) e, r.0), q)
 
@@ -50,12 +53,12 @@ overflow_add-p c =
     let b = smaller (goal.at.overflow_add-p c).Start in
     search rules
 
-pub loop-k-smaller : goal.loop-k-smaller
-loop-k-smaller c =
-    let m = later (goal.at.loop-k-smaller c).Else-n-children_end in
+pub loop-p-smaller : goal.loop-p-smaller
+loop-p-smaller c =
+    let m = later (goal.at.loop-p-smaller c).In-loop-p in
     omega arith
 
-pub loop-k-preserved : goal.loop-k-preserved
-loop-k-preserved c =
-    let m = later (goal.at.loop-k-preserved c).Else-n-children_end in
+pub loop-p-preserved : goal.loop-p-preserved
+loop-p-preserved c =
+    let m = later (goal.at.loop-p-preserved c).In-loop-p in
     omega arith

@@ -2,9 +2,10 @@
 -- (`Counted`), and all of them are put. The place i is one of the same child, or the first of the
 -- next one, as it shares more than the head with the place before, or just that. The measure is the
 -- number of places left.
-use Rattle.std.specs.Prelude.{◌-◌, ◌≤◌}
+use Rattle.std.specs.Prelude.{◌≤◌}
 use Rattle.lists.proofs.Prelude.{List, ℕ}
-use Rattle.pattern_set.specs.PatternSet.{PatternSet, patterns_of}
+use Rattle.pattern_set.specs.PatternSet.{PatternSet}
+use Rattle.automaton_lookup.specs.View.{patterns}
 use Rattle.automaton_rows.specs.Rows.{Eight, word_with}
 use Rattle.automaton_rows.proofs.Intervals.{Counted}
 use Rattle.automaton_rows.proofs.put_children.Given as goal
@@ -15,7 +16,5 @@ Puts ps n few before count after = (f : ℕ) → Eight (word_with ps n f few) be
 
 abbrev pub invariant-loop-i : goal.invariant-loop-i
 invariant-loop-i l =
-    Counted (patterns_of l.set) l.n l.count l.i × (l.count ≤ l.i) × Puts (patterns_of l.set) l.n 1 l.initial.row l.count l.row
-
-abbrev pub decreases-loop-i : goal.decreases-loop-i
-decreases-loop-i l = l.end - l.i
+    Counted (patterns l.node.records) l.node.records.made l.count l.i × (l.count ≤ l.i) × Puts (patterns l.node.records) l.node.records.made 1 l.initial.row
+    l.count l.row

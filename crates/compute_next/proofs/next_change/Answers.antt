@@ -1,5 +1,5 @@
--- No distance from place i on can be raised. Where the one at i can, this is the change; where the
--- loop ends none can, and the list is the last one.
+-- Where the distance at a place can be raised, this is the change; where the loop ends none can,
+-- and the list is the last one.
 use Rattle.std.specs.Prelude.{◌≡◌, ◌-◌, ◌<◌}
 use Rattle.lists.proofs.Prelude.{sym, List, ℕ, suc, drop, arith}
 use Rattle.compute_realization.specs.OpenDistances.{open_distances}
@@ -15,29 +15,27 @@ stuck-from ds i h s =
     let e : suc (i - 1) ≡ i = omega arith in
     rw e s
 
-pub loop-i-init : goal.loop-i-init
-loop-i-init c = (omega arith, Stuck-none c.args.ds.now)
+pub loop-place-init : goal.loop-place-init
+loop-place-init c = Stuck-none c.args.ds.now
 
-pub returns-then-e-gt0 : goal.returns-then-e-gt0
-returns-then-e-gt0 c =
-    let L = c.loop-i in
+pub returns-in-Some-clause-list : goal.returns-in-Some-clause-list
+returns-in-Some-clause-list c =
+    let L = c.loop-place in
     let ds = c.args.ds.now in
-    let s = stuck-from ds L.i c.loop-i-test.true L.invariant.1 in
-    sym ((next_iff ds (replaced ds (L.i - 1) c.raised-e.result)).1
-    (raised-IsNext ds (L.i - 1) c.raised-e.result (omega arith) (realizable-Led ds c.requires.1) c.if-e-gt0.true c.raised-e.ensures s))
+    sym ((next_iff ds (replaced ds (L.place - 1) c.in-Some.distance)).1
+    (raised-IsNext ds (L.place - 1) c.in-Some.distance (omega arith) (realizable-Led ds c.requires.1) c.in-Some.ensures
+    (stuck-from ds L.place c.loop-place-test.true L.invariant)))
 
-pub loop-i-preserved : goal.loop-i-preserved
-loop-i-preserved c =
-    let L = c.loop-i in
+pub loop-place-preserved : goal.loop-place-preserved
+loop-place-preserved c =
+    let L = c.loop-place in
     let ds = c.args.ds.now in
-    let s = stuck-from ds L.i c.loop-i-test.true L.invariant.1 in
-    let e : c.raised-e.result ≡ 0 = omega arith in
-    (omega arith, Stuck-more ds (L.i - 1) (omega arith) (rw e at c.raised-e.ensures) s)
+    Stuck-more ds (L.place - 1) (omega arith) c.in_default.ensures (stuck-from ds L.place c.loop-place-test.true L.invariant)
 
-pub returns : goal.returns
+pub returns-clause-list : goal.returns-clause-list
 unfolding open_distances
-returns c =
-    let L = c.loop-i in
+returns-clause-list c =
+    let L = c.loop-place in
     let ds = c.args.ds.now in
-    let e : L.i ≡ 0 = omega arith in
-    sym ((last_iff ds).1 (Stuck-IsLast ds (rw e at L.invariant.1)))
+    let e : L.place ≡ 0 = omega arith in
+    sym ((last_iff ds).1 (Stuck-IsLast ds (rw e at L.invariant)))

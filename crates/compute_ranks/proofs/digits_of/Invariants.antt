@@ -1,12 +1,12 @@
 -- The weight is that of place i. The first i words are the first i distances of the code, and the
 -- words from i on are as they came.
-use Rattle.std.specs.Prelude.{◌≡◌, ◌++◌, ◌-◌, ◌≤◌}
-use Rattle.lists.proofs.Prelude.{length, drop}
+use Rattle.std.specs.Prelude.{◌≡◌, ◌++◌}
+use Rattle.lists.proofs.Prelude.{drop}
 use Rattle.ranking.specs.Rank.{factorial, unrank}
 use Rattle.compute_ranks.proofs.digits_of.Given as goal
 
 abbrev pub invariant-loop-i : goal.invariant-loop-i
-invariant-loop-i l = (l.i ≤ l.n) × (length l.out ≡ length l.initial.out) × (l.weight ≡ factorial l.i) × (l.out ≡ unrank l.i l.code ++ drop l.i l.initial.out)
-
-abbrev pub decreases-loop-i : goal.decreases-loop-i
-decreases-loop-i l = length l.initial.out - l.i
+invariant-loop-i l = record {
+  weight : l.weight ≡ factorial l.i;
+  words : l.out ≡ unrank l.i l.code ++ drop l.i l.initial.out;
+}

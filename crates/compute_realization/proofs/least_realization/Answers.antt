@@ -13,10 +13,8 @@ use Rattle.compute_realization.proofs.least_realization.Goals as goal
 pub loop-i-init : goal.loop-i-init
 loop-i-init c =
     record {
-      within = omega arith;
-      sized = refl;
-      sized_next = refl;
       values = values_none _ _ c.requires.ds_value;
+      sized_next = refl;
       nexts = λ k a b. absurd (let z : ⊥ = omega arith in z);
     }
 
@@ -37,9 +35,6 @@ one_more-requires c =
           L.invariant.values,
     )
 
-pub bounds-out-i : goal.bounds-out-i
-bounds-out-i c = omega arith
-
 pub loop-i-preserved-then-j-n : goal.loop-i-preserved-then-j-n
 loop-i-preserved-then-j-n c =
     let L = c.loop-i in
@@ -54,15 +49,10 @@ loop-i-preserved-then-j-n c =
     (values_at c.args.ds.now c.args.out.now e L.out L.i j (omega (arith, p.after)) t c.requires.ds_len_bound.1 L.invariant.values)
     ∙ sym (least_more c.args.ds.now (L.i - 1) j e (omega arith) p t) in
     record {
-      within = omega (arith, L.invariant.within);
-      sized = length-set L.out (L.i - 1) _ ∙ L.invariant.sized;
+      values = values_more c.args.ds.now c.args.out.now e L.out L.i _ (omega arith) (omega arith) c.requires.ds_len_bound.1 L.invariant.values v;
       sized_next = length-set L.next (L.i - 1) _ ∙ L.invariant.sized_next;
-      values = values_more c.args.ds.now c.args.out.now e L.out L.i _ (omega arith) L.invariant.within c.requires.ds_len_bound.1 L.invariant.values v;
       nexts = next_more c.args.ds.now L.next L.i j (omega arith) (omega arith) L.invariant.nexts p;
     }
-
-pub slice_set_of-out : goal.slice_set_of-out
-slice_set_of-out c = omega arith
 
 pub loop-i-preserved : goal.loop-i-preserved
 loop-i-preserved c =
@@ -72,15 +62,10 @@ loop-i-preserved c =
     let e = c.requires.ds_value in
     let v = sym (least_zero c.args.ds.now (L.i - 1) j e (omega arith) p c.if-j-n.false) in
     record {
-      within = omega (arith, L.invariant.within);
-      sized = length-set L.out (L.i - 1) _ ∙ L.invariant.sized;
+      values = values_more c.args.ds.now c.args.out.now e L.out L.i _ (omega arith) (omega arith) c.requires.ds_len_bound.1 L.invariant.values v;
       sized_next = length-set L.next (L.i - 1) _ ∙ L.invariant.sized_next;
-      values = values_more c.args.ds.now c.args.out.now e L.out L.i _ (omega arith) L.invariant.within c.requires.ds_len_bound.1 L.invariant.values v;
       nexts = next_more c.args.ds.now L.next L.i j (omega arith) (omega arith) L.invariant.nexts p;
     }
-
-pub shape_of-out : goal.shape_of-out
-shape_of-out c = c.loop-i.invariant.sized
 
 pub returns : goal.returns
 returns c =

@@ -9,18 +9,11 @@ use Rattle.compute_realization.proofs.least_realization.Given as goal
 
 -- before the turn that writes place i - 1
 pub record Writing (ds : List ℕ) (before out : List ℤ) (next : List ℕ) (i : ℕ) : Type 0 where
-  -- place i is in the list, or behind its last one
-  pub within : i ≤ length ds
-  -- the arrays are as long as they were
-  pub sized : length out ≡ length before
-  pub sized_next : length next ≡ 256
   -- the values from place i on are written, and the rest is as it was
   pub values : out ≡ take i before ++ drop i (written ds before)
-  -- and next has the next lower places from place i on
+  -- and next, which is as long as it was, has the next lower places from place i on
+  pub sized_next : length next ≡ 256
   pub nexts : (k : ℕ) → i ≤ k → k < length ds → IsNext ds k (get_or next k 0)
 
 abbrev pub invariant-loop-i : goal.invariant-loop-i
 invariant-loop-i l = Writing l.ds l.initial.out l.out l.next l.i
-
-abbrev pub decreases-loop-i : goal.decreases-loop-i
-decreases-loop-i l = l.i

@@ -6,13 +6,23 @@ use Rattle.filter_search.proofs.takes_all.Goals as goal
 
 pub overflow_mul-result : goal.overflow_mul-result
 overflow_mul-result c =
-    omega (arith, mul-le-mul_right c.pattern_count-k.result c.requires.n_bound, c.pattern_count-k.ensures, count_le c.args.set.now c.requires.set)
+    omega (
+      arith,
+      mul-le-mul_right c.pattern_count-k.result c.requires.n_bound,
+      c.pattern_count-k.ensures,
+      count_le c.args.tables.now.set.now
+          c.args.tables.now.good,
+    )
 
 pub overflow_mul-result-2 : goal.overflow_mul-result-2
 overflow_mul-result-2 c =
-    omega (arith, mul-le-mul_right c.pattern_count-k.result c.requires.n_bound, c.pattern_count-k.ensures, count_le c.args.set.now c.requires.set)
+    omega (
+      arith,
+      mul-le-mul_right c.pattern_count-k.result c.requires.n_bound,
+      c.pattern_count-k.ensures,
+      count_le c.args.tables.now.set.now
+          c.args.tables.now.good,
+    )
 
 pub returns : goal.returns
-returns c =
-    let a = c.args in
-    ap (λ (k : ℕ). leb (2 * (a.n * k)) a.room) c.pattern_count-k.ensures
+returns c = ap (λ (k : ℕ). leb (2 * (c.args.n * k)) c.args.room) c.pattern_count-k.ensures

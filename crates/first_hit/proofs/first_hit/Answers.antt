@@ -1,21 +1,26 @@
--- `first_hit` meets its contract: a call that is lent no set that may be searched, or not its
--- automaton, is refused, and another searches the text.
-use Rattle.lists.proofs.Prelude.{subst}
-use Rattle.search_check.specs.declared.SearchSize.{SearchSize}
-use Rattle.search_check.specs.Checked.{IsChecked}
-use Rattle.first_hit.proofs.Entries.{unchecked}
+-- `first_hit` meets its contract: there are at most 64 patterns, so that the list has room for a
+-- hit of each.
+use Rattle.std.specs.Prelude.{◌≤◌}
+use Rattle.lists.proofs.Prelude.{length-take, arith, rules}
+use Rattle.pattern_set.proofs.Good.{good_set_parts}
+use Rattle.automaton_lookup.specs.View.{patterns}
+use Rattle.automaton_lookup.proofs.Words.{made_good}
 use Rattle.first_hit.proofs.first_hit.Goals as goal
 
-pub search_text-requires : goal.search_text-requires
-search_text-requires c =
-    let a = c.args in
-    subst (λ (r : SearchSize). IsChecked a.set.now a.automaton.now r) c.in-Holds.is c.check_search.ensures
+pub slice_bounds-list-end : goal.slice_bounds-list-end
+slice_bounds-list-end c =
+    let m = c.in_ok-view.view.records.begun in
+    let f : c.in_ok-view.view.records.k ≤ 64 = omega (arith, m.patterns, (good_set_parts (patterns c.in_ok-view.view.records) (made_good m)).0) in
+    search rules
 
-pub returns-in-Holds : goal.returns-in-Holds
-returns-in-Holds c = c.search_text.ensures
+pub slice_bounds-first_of_call-end : goal.slice_bounds-first_of_call-end
+slice_bounds-first_of_call-end c =
+    let m = c.in_ok-view.view.records.begun in
+    let f : c.in_ok-view.view.records.k ≤ 64 = omega (arith, m.patterns, (good_set_parts (patterns c.in_ok-view.view.records) (made_good m)).0) in
+    simp length-take (omega arith)
 
-pub returns-in-Refused : goal.returns-in-Refused
-returns-in-Refused c =
-    let a = c.args in
-    let met = subst (λ (r : SearchSize). IsChecked a.set.now a.automaton.now r) c.in-Refused.is c.check_search.ensures in
-    unchecked a.set.now a.automaton.now a.text.now c.in-Refused.r met
+pub first_of_call-requires-clause-list : goal.first_of_call-requires-clause-list
+first_of_call-requires-clause-list c =
+    let m = c.in_ok-view.view.records.begun in
+    let f : c.in_ok-view.view.records.k ≤ 64 = omega (arith, m.patterns, (good_set_parts (patterns c.in_ok-view.view.records) (made_good m)).0) in
+    simp length-take (omega (arith, m.patterns))

@@ -1,7 +1,6 @@
--- `is_gap` meets its contract: the bits of the element are the gap's exactly if the value is.
-use Rattle.lists.proofs.Prelude.{pos, get_or}
+-- The bits of the element are the gap's exactly if the value is.
+use Rattle.lists.proofs.Prelude.{pos, get_or, arith}
 use Rattle.gaps.proofs.Laws.{gap_bits}
-use Rattle.lists.proofs.Prelude.{arith}
 use Rattle.gaps.proofs.is_gap.Goals as goal
 
 pub returns : goal.returns

@@ -1,12 +1,9 @@
--- `read_patterns` meets its contract: the pattern lines before the place reached lie in the arrays
--- (`Reading`).
-use Rattle.std.specs.Prelude.{◌-◌}
-use Rattle.lists.proofs.Prelude.{length}
+-- The patterns of the lines that are taken lie in the arrays.
+use Rattle.hits_input.specs.Steps.{parts_left}
 use Rattle.hits_input.proofs.Inputs.{Reading}
 use Rattle.hits_input.proofs.read_patterns.Given as goal
 
-abbrev pub invariant-loop-n : goal.invariant-loop-n
-invariant-loop-n l = Reading l.bytes l.initial.values l.initial.ends l.values l.ends l.start l.count l.filled
-
-abbrev pub decreases-loop-n : goal.decreases-loop-n
-decreases-loop-n l = length l.bytes - l.start
+abbrev pub invariant-loop-line : goal.invariant-loop-line
+invariant-loop-line l =
+    (goal.iterator-loop-line).can_next l.lines × (goal.iterator-loop-line).is_finite l.lines
+    × Reading (parts_left l.initial.lines) (parts_left l.lines) l.initial.values l.initial.ends l.values l.ends l.count l.filled

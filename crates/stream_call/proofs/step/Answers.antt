@@ -1,67 +1,56 @@
 -- `step` meets its contract: the value is read, and the hits at the node that it leads to are
 -- written, and the rises over them.
 use Rattle.std.specs.Prelude.{◌+◌, ◌≤◌}
-use Rattle.lists.proofs.Prelude.{ap, sym, subst, ℕ, pos, length, get_or, arith}
-use Rattle.pattern_set.specs.PatternSet.{patterns_of}
-use Rattle.automaton_model.specs.Automaton.{head_of}
+use Rattle.lists.proofs.Prelude.{ap, refl, ◌∙◌, pos, length, get_or, arith}
+use Rattle.answers.specs.declared.SearchState.{SearchState}
+use Rattle.automaton_model.specs.Automaton.{head_of, listed}
+use Rattle.automaton_lookup.specs.View.{patterns}
 use Rattle.automaton_lookup.proofs.Words.{made_good}
-use Rattle.stream_step.proofs.Listed.{length-listed}
-use Rattle.search_model.specs.Search.{Position}
+use Rattle.search_model.specs.Search.{position_of}
 use Rattle.search_model.specs.Recent.{found_at}
-use Rattle.read_value.specs.Read.{position_at}
-use Rattle.stream_call.proofs.Taking.{stepped, step_depth}
-use Rattle.stream_call.proofs.step.Goals.{After-read_value-r, Start}
+use Rattle.stream_step.proofs.Listed.{length-listed}
+use Rattle.stream_call.specs.Taken.{step_at}
+use Rattle.stream_call.proofs.Taking.{step_depth, found_in, stepped_rises}
+use Rattle.stream_call.proofs.step.Goals.{After-read_value-attempts}
 use Rattle.stream_call.proofs.step.Goals as goal
 
-abbrev from : Start → Position
-from s = let a = s.args in position_at a.taken a.node a.first a.next a.places.now a.heights.now
+-- no more hits are written than there are patterns
+few : (c : After-read_value-attempts) →
+    let ps = patterns c.args.automaton.now.records in
+    length (listed ps (head_of ps c.read_value-attempts.new.search.state.node)) ≤ length ps
+few c =
+    let ps = patterns c.args.automaton.now.records in
+    length-listed ps (made_good c.args.automaton.now.records.begun) (head_of ps c.read_value-attempts.new.search.state.node)
 
 -- the node read is not deeper than the values taken with it
-deep : (c : After-read_value-r) →
-    length (head_of (patterns_of c.args.set.now) c.read_value-r.result.node) ≤ c.args.taken + 1
+deep : (c : After-read_value-attempts) →
+    length (head_of (patterns c.args.automaton.now.records) c.read_value-attempts.new.search.state.node) ≤ c.args.search.now.state.taken + 1
 deep c =
-    let ps = patterns_of c.args.set.now in
-    let made = c.requires.whole.0.made in
-    subst (λ (n : ℕ). length (head_of ps n) ≤ c.args.taken + 1) (sym (ap (λ (p : Position). p.node) c.read_value-r.ensures.state))
-    (step_depth ps (made_good made) made.filled (from (goal.at.After-read_value-r c).Start) (get_or c.args.values.now c.args.i (pos 0))
-    c.requires.heights_value.1)
+    let ps = patterns c.args.automaton.now.records in
+    let m = c.args.automaton.now.records.begun in
+    omega (
+      arith,
+      ap (λ (s : SearchState). length (head_of ps s.node)) c.read_value-attempts.ensures.state,
+      step_depth ps (made_good m) m.filled (position_of c.args.search.now.state) (get_or c.args.values.now c.args.i (pos 0)) c.requires.depth,
+    )
 
-pub read_value-r-requires : goal.read_value-r-requires
-read_value-r-requires c = record {
-  whole = (c.requires.whole.0, c.requires.whole.1);
-  are_counters = (c.requires.are_counters.0, c.requires.are_counters.1);
-  heights_value = c.requires.heights_value.0;
-}
+pub write_hits-n-requires-clause-room : goal.write_hits-n-requires-clause-room
+write_hits-n-requires-clause-room c =
+    omega (arith, few (goal.at.write_hits-n-requires-clause-room c).After-read_value-attempts, c.requires.hits_room)
 
-pub write_hits-n-requires : goal.write_hits-n-requires
-write_hits-n-requires c =
-    let ps = patterns_of c.args.set.now in
-    let r = c.read_value-r in record {
-      whole = c.requires.whole.0;
-      node_lt_count = (
-        omega (arith, r.ensures.node, c.requires.whole.0.nodes),
-        omega (arith, length-listed ps (made_good c.requires.whole.0.made) (head_of ps r.result.node), c.requires.whole.0.made.patterns, c.requires.whole.2),
-      );
-    }
+pub write_rises-requires-clause-depth : goal.write_rises-requires-clause-depth
+write_rises-requires-clause-depth c = omega (arith, deep (goal.at.write_rises-requires-clause-depth c).After-read_value-attempts)
 
-pub write_rises-requires : goal.write_rises-requires
-write_rises-requires c =
-    let ps = patterns_of c.args.set.now in
-    let r = c.read_value-r in
-    let d = deep (goal.at.write_rises-requires c).After-read_value-r in record {
-      whole = (c.requires.whole.0, omega (arith, r.ensures.node, c.requires.whole.0.nodes), omega (arith, d));
-      taken_bound = (
-        c.requires.are_counters.3,
-        omega (arith, c.requires.are_counters.1, c.requires.are_counters.2),
-        omega (arith, length-listed ps (made_good c.requires.whole.0.made) (head_of ps r.result.node), c.requires.whole.0.made.patterns, c.requires.whole.3),
-      );
-    }
+pub write_rises-requires-clause-room : goal.write_rises-requires-clause-room
+write_rises-requires-clause-room c =
+    omega (arith, few (goal.at.write_rises-requires-clause-room c).After-read_value-attempts, c.requires.rises_room)
 
-pub returns : goal.returns
-returns c =
-    let a = c.args in
-    let made = c.requires.whole.0.made in
-    stepped (patterns_of a.set.now) (made_good made) made.filled (from (goal.at.returns c).Start) (get_or a.values.now a.i (pos 0)) _ _ _ _
-    (found_at a.start a.recent.now a.values.now) a.found a.rises.now _
-    c.read_value-r.result c.write_hits-n.result c.read_value-r.ensures c.write_hits-n.ensures.value c.write_hits-n.ensures.hits_after
+pub returns-clause-rises : goal.returns-clause-rises
+returns-clause-rises c =
+    let ps = patterns c.args.automaton.now.records in
+    let st = c.args.search.now.state in
+    let r = c.read_value-attempts in
     c.write_rises.ensures
+    ∙ stepped_rises ps (step_at c.args.automaton.now.records st (get_or c.args.values.now c.args.i (pos 0))) st.taken
+    (listed ps (head_of ps r.new.search.state.node)) r.ensures.hits _ (found_at c.args.start st.recent c.args.values.now) c.args.rises.now
+    (found_in _ c.args.start st.recent c.args.values.now refl (ap (λ (s : SearchState). s.recent) r.ensures.state) refl)

@@ -1,150 +1,124 @@
 -- `take_values` meets its contract: what is done so far and then the call from the present position
 -- are the whole call (`Taking`).
-use Rattle.std.specs.Prelude.{◌≡◌, ◌++◌, ◌+◌, ◌-◌, ◌*◌, ◌/◌, ◌≤◌, ◌<◌}
-use Rattle.lists.proofs.Prelude.{◌∙◌, sym, refl, false, length, take, drop, length-take, length-drop}
-use Rattle.lists.proofs.Prelude.{leb, arith, leb-true, leb-false}
-use Rattle.pattern_set.specs.PatternSet.{patterns_of}
-use Rattle.set_access.proofs.Laws.{count_le}
+use Rattle.std.specs.Prelude.{◌≡◌, ◌++◌, ◌+◌, ◌-◌, ◌*◌}
+use Rattle.lists.proofs.Prelude.{◌∙◌, ap, ap₂, refl, subst, List, map, ℕ, ℤ, pos, length, get_or, take, drop, arith}
+use Rattle.matching.specs.Rise.{rise}
+use Rattle.pattern_set.proofs.Good.{good_set_parts}
+use Rattle.answers.specs.declared.SearchState.{SearchState}
+use Rattle.automaton_lookup.specs.View.{patterns}
 use Rattle.automaton_lookup.proofs.Words.{made_good}
 use Rattle.search_model.specs.Recent.{found_at}
-use Rattle.stream_call.specs.declared.Taken.{Taken}
-use Rattle.read_value.specs.Read.{position_at}
-use Rattle.stream_call.proofs.Taking.{Taking, counted_again, Taking-begins, Taking-more, taking_ended, taking_full}
-use Rattle.stream_call.proofs.take_values.Goals.{After-step-s, Then-has_room, else-loop-i-test, then-loop-i-test+else-has_room}
+use Rattle.search_model.specs.Search.{position_of, state_at}
+use Rattle.stream_call.specs.Taken.{step_at, call_at, IsDone}
+use Rattle.stream_call.proofs.Taking.{Taking, Taking-start, Taking-more, Finished, taking_ended, taking_full}
+use Rattle.stream_call.proofs.Taking.{state_exact, stepped_first, stepped_position}
+use Rattle.stream_call.proofs.take_values.Goals.{After-step-moved, Then-hits-found, After-loop-i}
 use Rattle.stream_call.proofs.take_values.Goals as goal
 
--- two words a pattern are free in a turn
-roomy : (c : Then-has_room) →
-    2 * c.args.k ≤ length c.loop-i.hits - c.loop-i.used
-roomy c =
-    leb-true (2 * c.args.k) (length c.loop-i.hits - c.loop-i.used) (sym c.has_room.ensures ∙ c.if-has_room.true)
-
 -- the call after one value more
-more : (c : After-step-s) →
-    let a = c.args in
+more : (c : After-step-moved) →
+    let ps = patterns c.args.automaton.now.records in
+    let st = c.args.search.now.state in
     let L = c.loop-i in
-    let r = c.step-s in
-    Taking (patterns_of a.set.now) (position_at a.taken a.node a.first a.next a.places.now a.heights.now) a.values.now a.hits.now
-    (found_at a.taken a.recent.now a.values.now) a.rises.now
-    (position_at (a.taken + L.i + 1) r.result.node r.result.first r.result.next c.step-s.new.places c.step-s.new.heights) (L.i + 1)
-    (L.used + 2 * r.result.hits) (L.attempts + r.result.attempts)
-    (take L.used L.hits ++ (c.step-s.new.hits ++ drop (length L.hits - L.used) (drop L.used L.hits)))
-    c.step-s.new.rises
+    let r = c.step-moved in
+    Taking ps (position_of st) c.args.values.now c.args.hits.now (found_at st.taken st.recent c.args.values.now) c.args.rises.now
+    (position_of r.new.search.state) (L.i + 1) (L.found + r.result.hits) (L.attempts + r.result.attempts)
+    (take (2 * L.found) L.hits ++ (r.new.hits ++ drop (length L.hits - 2 * L.found) (drop (2 * L.found) L.hits)))
+    (take L.found L.rises ++ (r.new.rises ++ drop (length L.rises - L.found) (drop L.found L.rises)))
 more c =
-    let a = c.args in
-    let made = c.requires.whole.0.made in
+    let ps = patterns c.args.automaton.now.records in
+    let m = c.args.automaton.now.records.begun in
     let L = c.loop-i in
-    let r = c.step-s in
-    let room = roomy (goal.at.After-step-s c).Then-has_room in
-    Taking-more (patterns_of a.set.now) (made_good made) made.filled
-    (position_at a.taken a.node a.first a.next a.places.now a.heights.now) a.values.now a.hits.now
-    (found_at a.taken a.recent.now a.values.now) a.rises.now
-    (position_at (a.taken + L.i) L.at L.oldest L.newest L.places L.heights) L.i L.used L.attempts L.hits L.rises L.invariant.0
-    c.loop-i-test.true (omega (arith, made.patterns)) (length L.hits - L.used) c.step-s.new.hits
-    c.step-s.new.places c.step-s.new.heights c.step-s.new.rises r.result refl r.ensures
+    let r = c.step-moved in
+    let st = c.args.search.now.state in
+    let s = step_at c.args.automaton.now.records L.search.state (get_or c.args.values.now L.i (pos 0)) in
+    let part = take (length L.rises - L.found) (drop L.found L.rises) in
+    let v = r.ensures.rises
+    ∙ ap (λ (recent : List ℤ). map (rise ps (found_at st.taken recent c.args.values.now)) s.hits ++ drop (length s.hits) part) L.invariant.recent in
+    Taking-more ps (made_good m) m.filled _ _ _ _ _ _ _ _ _ _ _ L.invariant.taking c.loop-i-test.true (omega (arith, c.if-hits-found.false, m.patterns))
+    (position_of r.new.search.state) r.result.hits r.result.attempts _ _ _ _
+    (stepped_position ps L.search.state r.new.search.state (get_or c.args.values.now L.i (pos 0)) L.search.state.recent r.ensures.state)
+    r.ensures.attempts r.ensures.hits refl refl r.ensures.words v
 
--- ---- before the loop
 pub loop-i-init : goal.loop-i-init
 loop-i-init c =
-    let a = c.args in
-    let made = c.requires.whole.0.made in
-    let node : a.node < a.count = c.requires.whole.1 in
-    Taking-begins (patterns_of a.set.now) (made_good made) made.filled a.taken a.node a.first a.next a.places.now a.heights.now
-    a.values.now a.hits.now (found_at a.taken a.recent.now a.values.now) a.rises.now c.requires.are_counters.2 c.requires.places_len.2
-    (omega (arith, c.requires.whole.0.nodes)) c.requires.are_counters.0 c.requires.are_counters.1 c.requires.places_len.0 c.requires.places_len.1
-
--- ---- a turn
-pub overflow_sub-hits : goal.overflow_sub-hits
-overflow_sub-hits c = omega (arith, c.loop-i.invariant.0.room, c.loop-i.invariant.0.sized)
-
-pub has_room-requires : goal.has_room-requires
-has_room-requires c =
-    omega (arith, c.requires.whole.0.made.patterns, count_le c.args.set.now c.requires.whole.0.made.is_set)
-
-pub overflow_cast-i : goal.overflow_cast-i
-overflow_cast-i c =
-    omega (arith, c.loop-i.invariant.0.within, c.requires.whole.2)
-
-pub overflow_add-taken : goal.overflow_add-taken
-overflow_add-taken c =
-    omega (arith, c.loop-i.invariant.0.within, c.requires.whole.2)
-
-pub offset_bounds-hits-used : goal.offset_bounds-hits-used
-offset_bounds-hits-used c = let L = c.loop-i in omega (arith, L.invariant.0.room, L.invariant.0.sized)
-
-pub slice_bounds-step-count : goal.slice_bounds-step-count
-slice_bounds-step-count c = let L = c.loop-i in omega (arith, L.invariant.0.room, L.invariant.0.sized)
-
-pub slice_bounds-step-start : goal.slice_bounds-step-start
-slice_bounds-step-start c = let L = c.loop-i in omega (arith, L.invariant.0.room, L.invariant.0.sized)
-
-pub slice_bounds-step-end : goal.slice_bounds-step-end
-slice_bounds-step-end c = let L = c.loop-i in omega (arith, L.invariant.0.room, L.invariant.0.sized)
-
-pub step-s-requires : goal.step-s-requires
-step-s-requires c =
-    let L = c.loop-i in
-    let t = L.invariant.0 in
-    let room = roomy (goal.at.step-s-requires c).Then-has_room in record {
-      whole = (
-        c.requires.whole.0,
-        omega (arith, t.node, c.requires.whole.0.nodes),
-        simp (length-take, length-drop) (omega arith),
-        omega (arith, room, t.counted, t.sized, t.risen_sized, t.risen_room),
-      );
-      are_counters = (L.invariant.1, c.loop-i-test.true, refl, omega (arith, c.requires.whole.2));
-      heights_value = (t.ring, t.depth);
+    let m = c.args.automaton.now.records.begun in
+    let st = c.args.search.now.state in
+    record {
+      taking = Taking-start (patterns c.args.automaton.now.records) (made_good m) m.filled (position_of st) c.args.values.now c.args.hits.now
+          (found_at st.taken st.recent c.args.values.now) c.args.rises.now c.requires.depth c.requires.arrays
+          (omega (arith, c.requires.node, c.args.automaton.now.whole)) c.requires.ring c.requires.sized.0 c.requires.sized.1;
+      first = c.requires.first;
+      recent = refl;
     }
 
--- so no count overflows
+pub overflow_mul-automaton : goal.overflow_mul-automaton
+overflow_mul-automaton c =
+    let m = c.args.automaton.now.records.begun in
+    omega (arith, m.patterns, (good_set_parts (patterns c.args.automaton.now.records) (made_good m)).0)
+
+-- too few words are free
+full : (c : Then-hits-found) →
+    let ps = patterns c.args.automaton.now.records in
+    let st = c.args.search.now.state in
+    let m = c.args.automaton.now.records.begun in
+    let L = c.loop-i in
+    Finished ps (made_good m) m.filled (position_of st) c.args.values.now c.args.hits.now (position_of L.search.state) L.i L.found L.attempts L.hits
+    (found_at st.taken st.recent c.args.values.now) c.args.rises.now L.rises L.invariant.taking
+full c =
+    let ps = patterns c.args.automaton.now.records in
+    let m = c.args.automaton.now.records.begun in
+    taking_full ps (made_good m) m.filled _ _ _ _ _ _ _ _ _ _ _ c.loop-i.invariant.taking c.loop-i-test.true
+    (omega (arith, c.if-hits-found.true, m.patterns))
+
+pub returns-then-hits-found-clause-state : goal.returns-then-hits-found-clause-state
+returns-then-hits-found-clause-state c =
+    state_exact c.loop-i.search.state c.loop-i.invariant.first
+    ∙ ap₂ state_at (full (goal.at.returns-then-hits-found-clause-state c).Then-hits-found).0 c.loop-i.invariant.recent
+
+pub returns-then-hits-found-clause-done : goal.returns-then-hits-found-clause-done
+returns-then-hits-found-clause-done c = (full (goal.at.returns-then-hits-found-clause-done c).Then-hits-found).1
+
+-- no value is left
+ended : (c : After-loop-i) →
+    let ps = patterns c.args.automaton.now.records in
+    let st = c.args.search.now.state in
+    let m = c.args.automaton.now.records.begun in
+    let L = c.loop-i in
+    Finished ps (made_good m) m.filled (position_of st) c.args.values.now c.args.hits.now (position_of L.search.state) L.i L.found L.attempts L.hits
+    (found_at st.taken st.recent c.args.values.now) c.args.rises.now L.rises L.invariant.taking
+ended c =
+    let ps = patterns c.args.automaton.now.records in
+    let m = c.args.automaton.now.records.begun in
+    taking_ended ps (made_good m) m.filled _ _ _ _ _ _ _ _ _ _ _ c.loop-i.invariant.taking c.loop-i-test.false
+
 pub overflow_add-attempts : goal.overflow_add-attempts
 overflow_add-attempts c =
-    omega (arith, (more (goal.at.overflow_add-attempts c).After-step-s).few, (more (goal.at.overflow_add-attempts c).After-step-s).within, c.requires.whole.2)
-
-pub overflow_mul-used : goal.overflow_mul-used
-overflow_mul-used c =
-    omega (arith, (more (goal.at.overflow_mul-used c).After-step-s).room)
-
-pub overflow_add-used : goal.overflow_add-used
-overflow_add-used c =
-    omega (arith, (more (goal.at.overflow_add-used c).After-step-s).room)
-
-pub overflow_add-i : goal.overflow_add-i
-overflow_add-i c =
-    omega (arith, (more (goal.at.overflow_add-i c).After-step-s).within, c.requires.whole.2)
-
-pub loop-i-smaller : goal.loop-i-smaller
-loop-i-smaller c = omega (arith, (more (goal.at.loop-i-smaller c).After-step-s).within)
+    let t = more (goal.at.overflow_add-attempts c).After-step-moved in
+    omega (arith, t.few, t.within, c.requires.taken)
 
 pub loop-i-preserved : goal.loop-i-preserved
 loop-i-preserved c =
-    let L = c.loop-i in
-    let t = c.args.taken in
-    let e : t + L.i + 1 ≡ t + (L.i + 1) = omega arith in
-    counted_again _ _ _ _ _ _ _ _ _ _ _ _ _ _ _ _ _ _ e (more (goal.at.loop-i-preserved c).After-step-s) c.step-s.ensures.counters
+    let st = c.args.search.now.state in
+    let r = c.step-moved in
+    record {
+      taking = more (goal.at.loop-i-preserved c).After-step-moved;
+      first = stepped_first (patterns c.args.automaton.now.records) c.loop-i.search.state _ _ _ r.ensures.state;
+      recent = ap (λ (s : SearchState). s.recent) r.ensures.state ∙ c.loop-i.invariant.recent;
+    }
 
-pub shape_of-rises : goal.shape_of-rises
-shape_of-rises c = c.loop-i.invariant.0.risen_sized
+pub returns-clause-state : goal.returns-clause-state
+returns-clause-state c =
+    state_exact c.loop-i.search.state c.loop-i.invariant.first
+    ∙ ap₂ state_at (ended (goal.at.returns-clause-state c).After-loop-i).0 c.loop-i.invariant.recent
 
-pub returns : goal.returns
-returns c =
-    let a = c.args in
-    let ps = patterns_of a.set.now in
-    let made = c.requires.whole.0.made in
+pub returns-clause-done : goal.returns-clause-done
+returns-clause-done c =
+    let ps = patterns c.args.automaton.now.records in
+    let st = c.args.search.now.state in
+    let xs = c.args.values.now in
     let L = c.loop-i in
-    let full : (e : leb (2 * a.k) (length L.hits - L.used) ≡ false) → length L.hits - L.used < 2 * length ps =
-    λ e. omega (arith, leb-false (2 * a.k) (length L.hits - L.used) e, made.patterns) in
-    let answer : Taken = record {
-      first = L.oldest;
-      next = L.newest;
-      node = L.at;
-      counts = record { taken = L.i; hits = L.used / 2; attempts = L.attempts };
-    } in
-    let p = position_at a.taken a.node a.first a.next a.places.now a.heights.now in
-    elim c.loop-i-test.branch [
-      | then-loop-i-test+else-has_room w ↦ taking_full ps (made_good made) made.filled p a.values.now a.hits.now answer L.places L.heights L.used
-          L.hits (found_at a.taken a.recent.now a.values.now) a.rises.now L.rises L.invariant.0 L.invariant.1 refl w.loop-i-test.true
-          (full (sym w.has_room.ensures ∙ w.if-has_room.false))
-      | else-loop-i-test w ↦ taking_ended ps (made_good made) made.filled p a.values.now a.hits.now answer L.places L.heights L.used
-          L.hits (found_at a.taken a.recent.now a.values.now) a.rises.now L.rises L.invariant.0 L.invariant.1 refl w.loop-i-test.false
-    ]
+    let all : L.i ≡ length xs = omega (arith, L.invariant.taking.within, c.loop-i-test.false) in
+    subst (λ (n : ℕ). IsDone ps (found_at st.taken st.recent xs) xs (call_at c.args.automaton.now.records st (length c.args.hits.now) xs)
+    c.args.hits.now L.hits c.args.rises.now L.rises (record { taken = n; hits = L.found; attempts = L.attempts })) all
+    (ended (goal.at.returns-clause-done c).After-loop-i).1

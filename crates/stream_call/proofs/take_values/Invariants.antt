@@ -1,22 +1,17 @@
 -- `take_values` meets its contract: what is done so far and then the call from the present position
--- are the whole call (`Taking`).
-use Rattle.std.specs.Prelude.{◌+◌, ◌-◌}
-use Rattle.lists.proofs.Prelude.{length}
-use Rattle.pattern_set.specs.PatternSet.{patterns_of}
+-- are the whole call (`Taking`); the ring starts in a slot, and what is kept stays.
+use Rattle.std.specs.Prelude.{◌≡◌, ◌<◌}
 use Rattle.search_model.specs.Recent.{found_at}
-use Rattle.open_minima.specs.Parts.{AreCounters}
-use Rattle.read_value.specs.Read.{position_at}
+use Rattle.search_model.specs.Search.{position_of}
+use Rattle.automaton_lookup.specs.View.{patterns}
 use Rattle.stream_call.proofs.Taking.{Taking}
 use Rattle.stream_call.proofs.take_values.Given as goal
 
--- before each turn: what is done so far, and the counters of the ring
 abbrev pub invariant-loop-i : goal.invariant-loop-i
-invariant-loop-i l =
-    Taking (patterns_of l.set) (position_at l.taken l.node l.first l.next l.initial.places l.initial.heights) l.values l.initial.hits
-    (found_at l.taken l.recent l.values) l.initial.rises
-    (position_at (l.taken + l.i) l.at l.oldest l.newest l.places l.heights) l.i l.used l.attempts l.hits l.rises
-    × AreCounters (l.taken + l.i) l.oldest l.newest
-
-abbrev pub decreases-loop-i : goal.decreases-loop-i
-decreases-loop-i l =
-    length l.values - l.i
+invariant-loop-i l = record {
+  taking : Taking (patterns l.automaton.records) (position_of l.initial.search.state) l.values l.initial.hits
+      (found_at l.initial.search.state.taken l.initial.search.state.recent l.values) l.initial.rises
+      (position_of l.search.state) l.i l.found l.attempts l.hits l.rises;
+  first : l.search.state.first < 256;
+  recent : l.search.state.recent ≡ l.initial.search.state.recent;
+}

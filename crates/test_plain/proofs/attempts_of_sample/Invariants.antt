@@ -1,9 +1,6 @@
--- `attempts_of_sample` is safe and ends.
-use Rattle.std.specs.Prelude.{◌+◌, ◌≤◌}
+-- `attempts_of_sample`: one attempt a suffix at most.
+use Rattle.std.specs.Prelude.{◌+◌, ◌-◌, ◌≤◌}
 use Rattle.test_plain.proofs.attempts_of_sample.Given as goal
 
-abbrev pub invariant-loop-n : goal.invariant-loop-n
-invariant-loop-n l = (l.n ≤ l.p + 1) × (l.n ≤ 257) × (l.count + l.n ≤ 257)
-
-abbrev pub decreases-loop-n : goal.decreases-loop-n
-decreases-loop-n l = l.n
+abbrev pub invariant-loop-from : goal.invariant-loop-from
+invariant-loop-from l = l.count + (l.p - 256) ≤ l.from

@@ -1,9 +1,6 @@
--- `candidates_at` is safe and ends.
-use Rattle.std.specs.Prelude.{◌-◌, ◌≤◌}
+-- `candidates_at`: one candidate a pattern at most.
+use Rattle.std.specs.Prelude.{◌≤◌}
 use Rattle.test_plain.proofs.candidates_at.Given as goal
 
 abbrev pub invariant-loop-j : goal.invariant-loop-j
-invariant-loop-j l = (l.count ≤ l.j) × (l.j ≤ l.k)
-
-abbrev pub decreases-loop-j : goal.decreases-loop-j
-decreases-loop-j l = l.k - l.j
+invariant-loop-j l = l.count ≤ l.j

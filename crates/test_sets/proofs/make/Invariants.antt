@@ -1,10 +1,6 @@
--- `make` is safe and ends.
-use Rattle.std.specs.Prelude.{◌≡◌, ◌-◌, ◌<◌}
-use Rattle.lists.proofs.Prelude.{length}
+-- `make`: a seed to go on with is below the modulus.
+use Rattle.std.specs.Prelude.{◌<◌}
 use Rattle.test_sets.proofs.make.Given as goal
 
-abbrev pub invariant-loop-j : goal.invariant-loop-j
-invariant-loop-j l = (length l.set ≡ length l.initial.set) × (l.s < 2147483647)
-
-abbrev pub decreases-loop-j : goal.decreases-loop-j
-decreases-loop-j l = l.k - l.j
+abbrev pub invariant-loop : goal.invariant-loop
+invariant-loop l = l.s < 2147483647

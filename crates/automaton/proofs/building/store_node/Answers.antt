@@ -12,4 +12,4 @@ returns c =
     let rec = record_words c.args.r in
     c.store_record.ensures
     ∙ ap (λ (l : List ℕ). take (at + 8) l ++ rec ++ drop (at + 8 + 8) l) c.store_eight.ensures
-    ∙ store_both xs c.args.row.now rec at c.requires.1 c.requires.0
+    ∙ store_both xs c.args.row.now rec at c.told-row c.requires

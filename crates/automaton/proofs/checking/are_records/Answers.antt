@@ -7,7 +7,7 @@ use Rattle.automaton_model.proofs.Lengths.{length_automaton, length_record}
 use Rattle.pattern_set.specs.PatternSet.{patterns_of}
 use Rattle.set_access.proofs.Laws.{count_le}
 use Rattle.automaton.proofs.Records.{Made-more, begins_not}
-use Rattle.automaton.proofs.Walk.{root_there, Along-start, begins_where}
+use Rattle.automaton.proofs.Walk.{root_there, Along-start, begins_where, none-result}
 use Rattle.lists.proofs.Prelude.{rules}
 use Rattle.automaton.proofs.checking.are_records.Goals.{Start}
 use Rattle.automaton.proofs.checking.are_records.Goals as goal
@@ -16,12 +16,6 @@ use Rattle.automaton.proofs.checking.are_records.Goals as goal
 few : (c : Start) → c.args.k ≤ 64
 few c =
     omega (arith, count_le c.args.set.now c.requires.made.is_set, c.requires.made.patterns)
-
-pub root_record-root-requires : goal.root_record-root-requires
-root_record-root-requires c = record {
-  set = c.requires.made.is_set;
-  nonzero = c.requires.made.filled;
-}
 
 pub overflow_mul-k : goal.overflow_mul-k
 overflow_mul-k c =
@@ -44,16 +38,14 @@ returns-then-not-is_record c =
     (begins_not c.requires.made 0 (root_there c.requires.made) _ (2 * c.args.k + 1) 8 (omega arith) c.root_record-root.ensures size
     (sym c.is_record.ensures ∙ c.if-not-is_record.true))
 
-pub first_wrong-wrong-requires : goal.first_wrong-wrong-requires
-first_wrong-wrong-requires c =
-    let size = sym (length_record (patterns_of c.args.set.now) 0) in record {
-      along = Along-start c.requires.count_value
-          (Made-more c.requires.made (root_there c.requires.made) (2 * c.args.k + 1) 8 (omega arith) size
-          (true-same _ _ (sym c.is_record.ensures ∙ c.if-not-is_record.false) ∙ c.root_record-root.ensures));
-      count_value = c.requires.count_value;
-    }
+pub first_wrong-requires-clause-along : goal.first_wrong-requires-clause-along
+first_wrong-requires-clause-along c =
+    let size = sym (length_record (patterns_of c.args.set.now) 0) in
+    Along-start c.requires.count_value
+    (Made-more c.requires.made (root_there c.requires.made) (2 * c.args.k + 1) 8 (omega arith) size
+    (true-same _ _ (sym c.is_record.ensures ∙ c.if-not-is_record.false) ∙ c.root_record-root.ensures))
 
 pub returns : goal.returns
 returns c =
-    let w = c.first_wrong-wrong in
-    begins_where w.result (omega (arith, w.ensures.made.1)) c.args.count c.requires.count_value w.ensures.made.0 w.ensures.missing
+    none-result _ _ c.is_none.ensures ∙ begins_where c.args.set.now c.args.words.now c.args.k c.args.count c.requires.count_value 1 c.first_wrong.result
+    (omega arith) c.first_wrong.ensures

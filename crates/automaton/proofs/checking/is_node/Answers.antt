@@ -15,7 +15,7 @@ both : (c : After-is_eight) →
 both c =
     let xs = c.args.words.now in
     let rec = record_words c.args.r in
-    both_same xs c.args.row.now rec c.args.at c.requires.1 c.requires.0
+    both_same xs c.args.row.now rec c.args.at c.told-row c.requires
     ∙ ap (λ (b : Bool). b && same (take 8 (drop (c.args.at + 8) xs)) rec) (sym c.is_eight.ensures)
 
 pub returns-then-not-is_eight : goal.returns-then-not-is_eight

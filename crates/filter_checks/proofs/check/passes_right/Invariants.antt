@@ -1,11 +1,8 @@
--- The loop keeps that the words before k pass, so the first that fails, or the end, decides.
-use Rattle.std.specs.Prelude.{◌-◌, ◌≤◌}
+-- What the words from here on say decides.
+use Rattle.std.specs.Prelude.{◌≡◌}
+use Rattle.lists.proofs.Prelude.{drop, all}
 use Rattle.filter_checks.specs.Comparisons.{passes_right}
-use Rattle.filter_checks.proofs.Passing.{AllBelow}
 use Rattle.filter_checks.proofs.check.passes_right.Given as goal
 
-abbrev pub invariant-loop-k : goal.invariant-loop-k
-invariant-loop-k l = (l.k ≤ l.n) × AllBelow (passes_right l.window) l.words l.k
-
-abbrev pub decreases-loop-k : goal.decreases-loop-k
-decreases-loop-k l = l.n - l.k
+abbrev pub invariant-loop-word : goal.invariant-loop-word
+invariant-loop-word l = all (passes_right l.window) (drop l.word-index l.words) ≡ all (passes_right l.window) l.words

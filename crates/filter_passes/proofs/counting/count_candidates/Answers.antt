@@ -1,136 +1,104 @@
--- The loop keeps where the pass stands, that the blocks of the places before p with a hit are
--- marked, and that with the hits from place p on no hit is left out. Where candidates were never
+-- The loop keeps where the pass stands, that the blocks of the places before it with a hit are
+-- marked, and that with the hits from there on no hit is left out. Where candidates were never
 -- trusted, what is counted is exact.
-use Rattle.std.specs.Prelude.{◌≡◌, ◌+◌}
-use Rattle.lists.proofs.Prelude.{◌∙◌, ap, sym, subst, ℕ, length, take, add-one, arith}
+use Rattle.std.specs.Prelude.{◌≡◌, ◌≤◌}
+use Rattle.lists.proofs.Prelude.{◌∙◌, sym, false, length, arith}
 use Rattle.lists.proofs.Tests.{clash}
-use Rattle.bit_sets.proofs.Laws.{size_le}
-use Rattle.pattern_set.specs.PatternSet.{patterns_of}
 use Rattle.pattern_set.proofs.IsSet.{set_good}
-use Rattle.filter_plan.specs.Plan.{text_fingerprint}
+use Rattle.matching.specs.Matching.{hits, candidates}
+use Rattle.filter_windows.specs.Patterns.{patterns}
 use Rattle.filter_passes.specs.Passes.{HitsMarked}
-use Rattle.filter_passes.proofs.Places.{marks_skip}
-use Rattle.filter_passes.proofs.Scan.{Scan, Scan-start, Scan-skip, Scan-next, Scan-end}
-use Rattle.filter_passes.proofs.HitsCounted.{HitsCounted, HitsCounted-start, HitsCounted-skip, HitsCounted-next, hits_counted_least}
-use Rattle.filter_passes.proofs.HitsCounted.{hits_counted_exact}
-use Rattle.filter_passes.proofs.counting.count_candidates.Goals.{After-next_stop-s, else-are_hits, then-are_hits}
+use Rattle.filter_passes.proofs.HitsCounted.{HitsCounted, HitsCounted-start, HitsCounted-skip, HitsCounted-next, hits_counted}
+use Rattle.filter_passes.proofs.Places.{marks_skip, bits_le}
+use Rattle.filter_passes.proofs.Scan.{Scan, Stands-start, Scan-start, Scan-skip, Scan-next, scan_end}
+use Rattle.filter_passes.proofs.counting.count_candidates.Goals.{In-Some, In_default, then-count-ge64+then-found-count, else-count-ge64}
 use Rattle.filter_passes.proofs.counting.count_candidates.Goals as goal
 
 -- where the pass stops
-stopped : (c : After-next_stop-s) →
-    let L = c.loop-s in
-    let a = c.args in
-    let ps = patterns_of a.set.now in
-    let r = c.next_stop-s.result in
-    Scan ps a.text.now r.place r.own r.begin L.count
-    × HitsMarked ps a.text.now L.marks r.place
-    × HitsCounted ps a.text.now r.place L.found L.trusted
+stopped : (c : In-Some) →
+    let L = c.loop-stop in
+    let ps = patterns c.args.tables.now.tables.now in
+    let text = c.args.text.now in
+    let q = c.in-Some.stop.at.place in
+    Scan ps text q L.count × HitsMarked ps text L.marks.words q × HitsCounted ps text q L.found L.trusted
 stopped c =
-    let L = c.loop-s in
-    let a = c.args in
-    let ps = patterns_of a.set.now in
-    let good = set_good a.set.now c.requires.set in
-    let r = c.next_stop-s.result in (
-      Scan-skip ps a.text.now L.p L.own L.begin L.count good L.invariant.0 r.place r.own r.begin c.next_stop-s.ensures.stands_2.0
-          c.next_stop-s.ensures.stands_2.1 c.next_stop-s.ensures.none_from,
-      marks_skip ps a.text.now L.marks L.p good L.invariant.1 r.place c.next_stop-s.ensures.none_from,
-      HitsCounted-skip ps a.text.now L.p L.found L.trusted L.invariant.3 r.place good c.next_stop-s.ensures.stands_2.1 c.next_stop-s.ensures.stands_2.0.0
-          c.next_stop-s.ensures.none_from,
+    let L = c.loop-stop in
+    let t = c.args.tables.now.tables.now in
+    let ps = patterns t in
+    let text = c.args.text.now in
+    let good = set_good t.set.now t.good in
+    let h = c.in-Some.ensures in
+    let q = c.in-Some.stop.at.place in (
+      Scan-skip ps text L.at.place L.count good L.invariant.1 q h.1 h.3,
+      marks_skip ps text L.marks.words L.at.place good L.invariant.2 q h.3,
+      HitsCounted-skip ps text L.at.place L.found L.trusted L.invariant.3 q good h.1 (omega (arith, h.2)) h.3,
     )
 
-pub loop-s-init : goal.loop-s-init
-loop-s-init c =
-    let ps = patterns_of c.args.set.now in
+-- what is counted and marked where no place is left that has candidates
+ended : (c : In_default) →
+    let L = c.loop-stop in
+    let ps = patterns c.args.tables.now.tables.now in
     let text = c.args.text.now in
-    (Scan-start ps text, (λ q h. absurd (let z : ⊥ = omega arith in z)), c.requires.text_len_bound.1, HitsCounted-start ps text)
-
-pub next_stop-s-requires : goal.next_stop-s-requires
-next_stop-s-requires c = record {
-  set = (c.requires.set, c.shortest_length-b.ensures, c.requires.set_tables);
-  stands = c.loop-s.invariant.0.stands;
-}
-
--- behind the last place
-pub returns-then-text-s : goal.returns-then-text-s
-returns-then-text-s c =
-    let L = c.loop-s in
-    let ps = patterns_of c.args.set.now in
+    (L.count ≡ candidates ps text)
+    × ((length (hits ps text) ≤ L.found) × (L.trusted ≡ false → L.found ≡ length (hits ps text)) × (L.found ≤ 67108864))
+    × HitsMarked ps text L.marks.words (length text)
+ended c =
+    let L = c.loop-stop in
+    let t = c.args.tables.now.tables.now in
+    let ps = patterns t in
     let text = c.args.text.now in
-    let r = c.next_stop-s.result in
-    let h = c.if-text-s.true in
-    let there = stopped (goal.at.returns-then-text-s c).After-next_stop-s in
-    let scan = there.0 in
-    let e : r.place ≡ length text = let i = scan.stands.0 in omega arith in record {
-      candidates_value = Scan-end ps text r.place r.own r.begin L.count scan h;
-      text_len_bound_2 = hits_counted_least ps text r.place L.found L.trusted there.2 h (omega (arith, e, c.requires.text_len_bound.0));
-      hits_value = hits_counted_exact ps text r.place L.found L.trusted there.2 h;
-      hits_marked = subst (λ (n : ℕ). HitsMarked ps text L.marks n) e there.1;
-    }
+    let good = set_good t.set.now t.good in
+    let i = L.invariant in (
+      scan_end ps text L.at.place L.count good i.1 i.0.0 c.in_default.ensures,
+      hits_counted ps text L.at.place L.found L.trusted i.3 good i.0.0 c.in_default.ensures c.requires.text_len_bound,
+      marks_skip ps text L.marks.words L.at.place good i.2 (length text) c.in_default.ensures,
+    )
+
+pub loop-stop-init : goal.loop-stop-init
+loop-stop-init c =
+    let ps = patterns c.args.tables.now.tables.now in
+    let text = c.args.text.now in
+    (Stands-start text, Scan-start ps text, (λ q h. absurd (let z : ⊥ = omega arith in z)), HitsCounted-start ps text)
 
 pub overflow_add-count : goal.overflow_add-count
 overflow_add-count c =
-    let scan = (stopped (goal.at.overflow_add-count c).After-next_stop-s).0 in
-    let i = scan.stands.0 in
     omega (
       arith,
-      c.requires.text_len_bound.0,
-      scan.bound,
-      i,
-      c.size-count.ensures,
-      size_le c.next_stop-s.result.candidates c.next_stop-s.type_inv.1.1.1.1.1.0.1,
+      c.requires.text_len_bound,
+      (stopped (goal.at.overflow_add-count c).In-Some).0.bound,
+      c.in-Some.ensures.2,
+      c.size.ensures,
+      bits_le c.in-Some.stop.candidates,
     )
 
-pub look_at-found-requires : goal.look_at-found-requires
-look_at-found-requires c =
-    let L = c.loop-s in
-    let there = stopped (goal.at.look_at-found-requires c).After-next_stop-s in
-    let lt = c.if-text-s.false in
-    let found = c.next_stop-s.ensures.since lt in record {
-      set = c.requires.set;
-      p_in_bounds = (lt, c.requires.text_len_bound.0, there.0.stands.1 lt);
-      set_of = found.1;
-      table_of = (c.requires.hit_tables.own.by_low, c.requires.hit_tables.own.by_high);
-      table_of_2 = c.requires.hit_tables.own.by_place;
-      check_tables = c.requires.hit_tables.check;
-      hits_marked = (there.1, L.invariant.2);
-    }
+pub look_at-requires-clause-hits_marked : goal.look_at-requires-clause-hits_marked
+look_at-requires-clause-hits_marked c = (stopped (goal.at.look_at-requires-clause-hits_marked c).In-Some).1
 
-pub overflow_add-found : goal.overflow_add-found
-overflow_add-found c =
-    let there = stopped (goal.at.overflow_add-found c).After-next_stop-s in
-    let i = there.0.stands.0 in
-    omega (arith, c.requires.text_len_bound.0, there.2.bound, i, c.look_at-found.ensures.lower_bound.1)
-
-pub overflow_add-p : goal.overflow_add-p
-overflow_add-p c =
-    omega (arith, c.if-text-s.false, c.requires.text_len_bound.0)
-
-pub own_at-own-requires : goal.own_at-own-requires
-own_at-own-requires c =
+pub loop-stop-preserved : goal.loop-stop-preserved
+loop-stop-preserved c =
+    let L = c.loop-stop in
+    let t = c.args.tables.now.tables.now in
+    let ps = patterns t in
     let text = c.args.text.now in
-    let r = c.next_stop-s.result in
-    let lt = c.if-text-s.false in
-    let found = c.next_stop-s.ensures.since lt in
-    (stopped (goal.at.own_at-own-requires c).After-next_stop-s).0.stands.1 lt ∙ ap (λ (n : ℕ). text_fingerprint 17 (take n text)) (sym (add-one r.place))
-
-pub loop-s-smaller : goal.loop-s-smaller
-loop-s-smaller c =
-    omega (arith, c.next_stop-s.ensures.stands_2.1, c.if-text-s.false)
-
-pub loop-s-preserved : goal.loop-s-preserved
-loop-s-preserved c =
-    let L = c.loop-s in
-    let a = c.args in
-    let r = c.next_stop-s.result in
-    let lt = c.if-text-s.false in
-    let found = c.next_stop-s.ensures.since lt in
-    let there = stopped (goal.at.loop-s-preserved c).After-next_stop-s in (
-      Scan-next (patterns_of a.set.now) a.text.now r.place r.own r.begin L.count (set_good a.set.now c.requires.set) there.0
-          c.own_at-own.result r.candidates _ lt c.own_at-own.ensures found.0 found.1 c.next_stop-s.type_inv.1.1.1.1.1.0.1
-          (ap (λ (n : ℕ). L.count + n) c.size-count.ensures),
-      c.look_at-found.ensures.hits_marked_2.0,
-      c.look_at-found.ensures.hits_marked_2.1,
-      HitsCounted-next (patterns_of a.set.now) a.text.now r.place L.found L.trusted there.2 c.look_at-found.result c.if-are_hits.trusted lt
-          c.look_at-found.ensures.lower_bound c.look_at-found.ensures.value
-          (elim c.if-are_hits.branch [ then-are_hits w ↦ λ f. clash w.trusted-is f | else-are_hits w ↦ λ f. sym w.trusted-is ∙ f ]),
+    let h = c.in-Some.ensures in
+    let stop = c.in-Some.stop in
+    let b = c.behind-at.ensures in
+    let there = stopped (goal.at.loop-stop-preserved c).In-Some in (
+      b.stands,
+      rw (b.place_value, c.size.ensures) (Scan-next ps text stop.at.place L.count (set_good t.set.now t.good) there.0 stop.candidates h.5),
+      rw b.place_value c.look_at.ensures.hits_marked_2,
+      rw b.place_value
+          (HitsCounted-next ps text stop.at.place L.found L.trusted there.2 c.look_at.result c.if-count-ge64.trusted h.2
+          c.look_at.ensures.lower_bound c.look_at.ensures.value
+          (elim c.if-count-ge64.branch [ then-count-ge64+then-found-count w ↦ λ f. clash w.trusted-is f | else-count-ge64 w ↦ λ f. sym w.trusted-is ∙ f ])),
     )
+
+pub returns-then-trusted : goal.returns-then-trusted
+returns-then-trusted c =
+    let e = ended (goal.at.returns-then-trusted c).In_default in
+    record { candidates_value = e.0; hits_value = (e.1.0, e.1.2); hits_marked = e.2 }
+
+pub returns-else-trusted : goal.returns-else-trusted
+returns-else-trusted c =
+    let e = ended (goal.at.returns-else-trusted c).In_default in
+    record { candidates_value = e.0; hits_value = (e.1.1 c.if-trusted.false, e.1.2); hits_marked = e.2 }

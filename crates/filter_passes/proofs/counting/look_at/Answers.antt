@@ -1,52 +1,34 @@
 -- A place that is looked at has as many hits as are found, and they mark its block. One that is not
 -- has at most as many as it has candidates, and its block is marked.
-use Rattle.lists.proofs.Prelude.{◌∙◌, sym, arith}
-use Rattle.lists.proofs.Tests.{T-true, clash}
-use Rattle.bit_sets.proofs.Laws.{size_le}
-use Rattle.pattern_set.specs.PatternSet.{patterns_of}
+use Rattle.lists.proofs.Prelude.{◌∙◌, arith}
 use Rattle.pattern_set.proofs.IsSet.{set_good}
-use Rattle.filter_passes.specs.Passes.{is_marked}
-use Rattle.filter_passes.proofs.Places.{marks_stay, marks_next, hits_at_size, hits_at_candidates, hits_at-le}
+use Rattle.filter_windows.specs.Patterns.{patterns}
+use Rattle.filter_passes.proofs.Places.{marks_next, hits_at_size, hits_at_candidates, hits_at-le, bits_le}
 use Rattle.filter_passes.proofs.counting.look_at.Goals as goal
 
--- the candidates are trusted
-pub returns-then-is_marked : goal.returns-then-is_marked
-returns-then-is_marked c =
-    let a = c.args in
-    let ps = patterns_of a.set.now in
-    let good = set_good a.set.now c.requires.set in
-    let t = T-true (is_marked a.marks.now _) (sym c.is_marked.ensures ∙ c.if-is_marked.true) in
-    let e = c.size.ensures in record {
-      hits_marked_2 = (marks_stay ps a.text.now a.marks.now a.p good c.requires.hits_marked.0 t, c.requires.hits_marked.1);
-      lower_bound = (
-        omega (arith, e, hits_at_candidates ps a.text.now a.p a.candidates good c.requires.set_of),
-        omega (arith, e, size_le a.candidates c.ranges.candidates.fits),
-      );
-      value = λ f. clash c.if-trusted.true f;
-    }
-
-pub hits_among-found-requires : goal.hits_among-found-requires
-hits_among-found-requires c = record {
-  set = c.requires.set;
-  p_in_bounds = (c.requires.p_in_bounds.0, c.requires.p_in_bounds.2);
-  set_of = c.requires.set_of;
-  table_of = c.requires.table_of;
-  table_of_2 = c.requires.table_of_2;
-  check_tables = c.requires.check_tables;
-}
+pub returns-then-is_marked-clause-lower_bound : goal.returns-then-is_marked-clause-lower_bound
+returns-then-is_marked-clause-lower_bound c =
+    let t = c.args.tables.now in
+    let stop = c.args.stop in (
+      omega (
+        arith,
+        c.size.ensures,
+        hits_at_candidates (patterns t) c.args.text.now stop.at.place stop.candidates (set_good t.set.now t.good)
+            c.requires.set_of,
+      ),
+      omega (arith, c.size.ensures, bits_le stop.candidates),
+    )
 
 pub returns : goal.returns
 returns c =
-    let a = c.args in
-    let ps = patterns_of a.set.now in
-    let good = set_good a.set.now c.requires.set in
-    let ranks = c.requires.check_tables.ranks in
+    let t = c.args.tables.now in
+    let ps = patterns t in
+    let text = c.args.text.now in
+    let p = c.args.stop.at.place in
+    let good = set_good t.set.now t.good in
     let r = c.hits_among-found in
-    let e = c.size-2.ensures ∙ hits_at_size ps a.text.now a.p a.numbers.now r.result good ranks r.ensures in record {
-      hits_marked_2 = (
-        marks_next ps a.text.now a.marks.now a.p good c.requires.hits_marked.0 _ r.result r.ensures c.mark_if.ensures,
-        c.mark_if.ensures.size ∙ c.requires.hits_marked.1,
-      );
-      lower_bound = (omega (arith, e), omega (arith, e, hits_at-le ps a.text.now a.p good));
-      value = λ f. e;
+    let e = c.size-2.ensures ∙ hits_at_size ps text p t.numbers.now r.result good t.filled.check.ranks r.ensures in record {
+      hits_marked_2 = marks_next ps text c.args.marks.now.words p good c.requires.hits_marked _ r.result r.ensures c.mark_if.ensures;
+      lower_bound = (omega (arith, e), omega (arith, e, hits_at-le ps text p good));
+      value = λ _. e;
     }

@@ -1,63 +1,51 @@
 -- The loop's count and the hits from place p on make the hits of the block; where the samples begin
 -- is kept from place to place.
-use Rattle.std.specs.Prelude.{◌≡◌, ◌-◌}
+use Rattle.std.specs.Prelude.{◌≡◌, ◌+◌, ◌-◌}
 use Rattle.lists.proofs.Prelude.{◌∙◌, ap, sym, subst, ℕ, length, take, add-one, arith}
-use Rattle.pattern_set.specs.PatternSet.{patterns_of}
+use Rattle.bit_sets.specs.BitSets.{bits}
 use Rattle.pattern_set.proofs.IsSet.{set_good}
 use Rattle.filter_plan.specs.Plan.{text_fingerprint}
 use Rattle.filter_windows.specs.Looks.{Since}
+use Rattle.filter_windows.specs.Patterns.{patterns}
+use Rattle.filter_passes.specs.Passes.{hits_from}
 use Rattle.filter_passes.proofs.Lists.{hits_end, hits_from-le}
 use Rattle.filter_passes.proofs.Written.{place_length}
+use Rattle.filter_passes.proofs.listing.count_block.Goals.{After-hits_at}
 use Rattle.filter_passes.proofs.listing.count_block.Goals as goal
 
-pub loop-p-init : goal.loop-p-init
-loop-p-init c = (omega arith, c.fingerprint_before-own.ensures, c.requires.first_le_end.3, omega arith)
-
-pub begin_next-since-requires : goal.begin_next-since-requires
-begin_next-since-requires c =
-    let L = c.loop-p in
-    (omega arith, L.invariant.2)
-
-pub hits_at-found-requires : goal.hits_at-found-requires
-hits_at-found-requires c = record {
-  set = c.requires.set;
-  p_in_bounds = (omega arith, c.own_next-own.ensures, c.begin_next-since.ensures);
-  hit_tables = c.requires.hit_tables;
-}
+-- the hits from place p on are those found there, and those behind it
+here : (c : After-hits_at) →
+    let ps = patterns c.args.tables.now in
+    let p = c.loop-p.p in
+    length (hits_from ps c.args.text.now p (c.args.end - p))
+    ≡ length (bits c.hits_at.result) + length (hits_from ps c.args.text.now (p + 1) (c.args.end - (p + 1)))
+here c =
+    let t = c.args.tables.now in
+    place_length (patterns t) c.args.text.now c.loop-p.p c.args.end c.loop-p-test.true (set_good t.set.now t.good) t.numbers.now c.hits_at.result
+    t.filled.check.ranks c.hits_at.ensures
 
 pub overflow_add-count : goal.overflow_add-count
 overflow_add-count c =
-    let L = c.loop-p in
     let a = c.args in
-    let ps = patterns_of a.set.now in
-    let good = set_good a.set.now c.requires.set in
-    let e =
-    place_length ps a.text.now L.p a.end c.loop-p-test.true good a.numbers.now c.hits_at-found.result c.requires.hit_tables.check.ranks
-    c.hits_at-found.ensures in
-    omega (arith, c.size-count.ensures, e, L.invariant.3, hits_from-le ps a.text.now a.first (a.end - a.first) good)
+    let t = a.tables.now in
+    omega (
+      arith,
+      c.size-count.ensures,
+      here (goal.at.overflow_add-count c).After-hits_at,
+      c.loop-p.invariant.2,
+      c.requires.first_le_end.2,
+      hits_from-le (patterns t) a.text.now a.first (a.end - a.first) (set_good t.set.now t.good),
+    )
 
 pub loop-p-preserved : goal.loop-p-preserved
 loop-p-preserved c =
-    let L = c.loop-p in
-    let a = c.args in
-    let ps = patterns_of a.set.now in
-    let good = set_good a.set.now c.requires.set in
-    let e =
-    place_length ps a.text.now L.p a.end c.loop-p-test.true good a.numbers.now c.hits_at-found.result c.requires.hit_tables.check.ranks
-    c.hits_at-found.ensures in (
-      omega arith,
-      c.own_next-own.ensures ∙ ap (λ (n : ℕ). text_fingerprint 17 (take n a.text.now)) (sym (add-one L.p)),
-      subst (λ (n : ℕ). Since a.text.now n c.begin_next-since.result) (sym (add-one L.p)) c.begin_next-since.ensures,
-      omega (arith, c.size-count.ensures, e, L.invariant.3),
+    let text = c.args.text.now in
+    let one = sym (add-one c.loop-p.p) in (
+      c.own_next-own.ensures ∙ ap (λ (n : ℕ). text_fingerprint 17 (take n text)) one,
+      subst (λ (n : ℕ). Since text n c.begin_next-since.result) one c.begin_next-since.ensures,
+      omega (arith, c.size-count.ensures, here (goal.at.loop-p-preserved c).After-hits_at, c.loop-p.invariant.2),
     )
 
-pub returns : goal.returns
-returns c =
-    let a = c.args in
-    let L = c.loop-p in
-    let none = hits_end (patterns_of a.set.now) a.text.now L.p a.end c.loop-p-test.false in
-    let e : L.p ≡ a.end = omega (arith, L.invariant.0, c.loop-p-test.false) in
-    record {
-      hits_value = omega (arith, L.invariant.3, ap length none);
-      since = subst (λ (n : ℕ). Since a.text.now n L.since) e L.invariant.2;
-    }
+pub returns-clause-hits_value : goal.returns-clause-hits_value
+returns-clause-hits_value c =
+    omega (arith, c.loop-p.invariant.2, ap length (hits_end (patterns c.args.tables.now) c.args.text.now c.loop-p.p c.args.end c.loop-p-test.false))

@@ -1,116 +1,119 @@
 -- What the loop has written and the hits from the block's first place on make the list, and so do
 -- the rises; a block without a mark has no hit. Where the samples begin is known behind the last
 -- block looked at.
-use Rattle.std.specs.Prelude.{◌+◌, ◌-◌}
-use Rattle.lists.proofs.Prelude.{◌∙◌, ap, sym, List, map, ℕ, length, sets, arith}
+use Rattle.std.specs.Prelude.{◌≡◌, ◌++◌, ◌+◌, ◌-◌, ◌*◌, ◌≤◌, ◌<◌}
+use Rattle.lists.proofs.Prelude.{◌∙◌, ap, sym, List, map, ℕ, sets, length, arith}
+use Rattle.pattern_set.proofs.IsSet.{set_good}
 use Rattle.matching.specs.Matching.{hit_words}
 use Rattle.matching.specs.Rise.{rise_in}
-use Rattle.pattern_set.specs.PatternSet.{patterns_of}
-use Rattle.pattern_set.proofs.IsSet.{set_good}
+use Rattle.filter_windows.specs.Patterns.{patterns}
 use Rattle.filter_windows.proofs.Samples.{Since-start, Since-same}
 use Rattle.filter_passes.specs.Passes.{hits_from, rest_hits}
 use Rattle.filter_passes.proofs.Lists.{hits_all, hits_end, block_step_to, block_pass}
-use Rattle.filter_passes.proofs.Written.{Written-start, Written-none, written_room, Written-part, written_end}
-use Rattle.filter_passes.proofs.listing.write_hits.Goals.{else-is_marked, then-is_marked}
+use Rattle.filter_passes.proofs.Written.{Written-start, Written-none, written_room, part_room, Written-behind, written_end}
+use Rattle.filter_passes.proofs.listing.write_hits.Goals.{else-is_marked, then-is_marked, After-min-end}
 use Rattle.filter_passes.proofs.listing.write_hits.Goals as goal
 
-pub loop-first-init : goal.loop-first-init
-loop-first-init c =
+-- the hits from the block's first place on are those of the block, and those behind it
+here : (c : After-min-end) →
+    let ps = patterns c.args.tables.now in
+    let first = 64 * c.loop-block.block in
+    rest_hits ps c.args.text.now first ≡ hits_from ps c.args.text.now first (c.min-end.result - first) ++ rest_hits ps c.args.text.now (first + 64)
+here c =
+    block_step_to (patterns c.args.tables.now) c.args.text.now (64 * c.loop-block.block) c.min-end.result
+    (omega (arith, c.loop-block-test.true, c.div_ceil-block-end.ensures)) c.min-end.ensures
+
+pub loop-block-init : goal.loop-block-init
+loop-block-init c =
     let a = c.args in
-    let ps = patterns_of a.set.now in
+    let ps = patterns a.tables.now in
     let text = a.text.now in
-    (omega arith, omega arith, Since-start text, Written-start (rise_in ps text) a.out.now a.rises.now 0 (rest_hits ps text 0))
+    let all = ap length (hits_all ps text) in (
+      omega arith,
+      Since-start text,
+      Written-start (rise_in ps text) a.out.now a.rises.now (rest_hits ps text 0) (omega (arith, c.requires.text_in_bounds, all))
+          (omega (arith, c.requires.text_in_bounds_2, all)),
+    )
 
-pub is_marked-requires : goal.is_marked-requires
-is_marked-requires c = omega arith
-
-pub block_end-end-requires : goal.block_end-end-requires
-block_end-end-requires c = omega arith
-
-pub begin_before-requires : goal.begin_before-requires
-begin_before-requires c =
-    let L = c.loop-first in
-    (L.invariant.1, omega (arith, c.loop-first-test.true), L.invariant.2)
-
-pub write_block-listed-requires : goal.write_block-listed-requires
-write_block-listed-requires c =
-    let L = c.loop-first in
+pub write_block-listed-requires-clause-first_in_bounds : goal.write_block-listed-requires-clause-first_in_bounds
+write_block-listed-requires-clause-first_in_bounds c =
+    let L = c.loop-block in
     let a = c.args in
-    let ps = patterns_of a.set.now in
+    let ps = patterns a.tables.now in
     let text = a.text.now in
-    let end = c.block_end-end.result in
-    let e = c.block_end-end.ensures in
+    let first = 64 * L.block in
+    (part_room (rise_in ps text) a.out.now L.out a.rises.now L.rises L.to (rest_hits ps text 0) (rest_hits ps text first) L.invariant.2
+    (hits_from ps text first (c.min-end.result - first)) (rest_hits ps text (first + 64))
+    (here (goal.at.write_block-listed-requires-clause-first_in_bounds c).After-min-end)).0
+
+pub write_block-listed-requires-clause-first_in_bounds_2 : goal.write_block-listed-requires-clause-first_in_bounds_2
+write_block-listed-requires-clause-first_in_bounds_2 c =
+    let L = c.loop-block in
+    let a = c.args in
+    let ps = patterns a.tables.now in
+    let text = a.text.now in
+    let first = 64 * L.block in
+    (part_room (rise_in ps text) a.out.now L.out a.rises.now L.rises L.to (rest_hits ps text 0) (rest_hits ps text first) L.invariant.2
+    (hits_from ps text first (c.min-end.result - first)) (rest_hits ps text (first + 64))
+    (here (goal.at.write_block-listed-requires-clause-first_in_bounds_2 c).After-min-end)).1
+
+pub overflow_add-to : goal.overflow_add-to
+overflow_add-to c =
+    let L = c.loop-block in
+    let a = c.args in
+    let ps = patterns a.tables.now in
+    let text = a.text.now in
+    let first = 64 * L.block in
     let room =
-    written_room (rise_in ps text) a.out.now L.out a.rises.now L.rises 0 L.to (rest_hits ps text 0) (rest_hits ps text L.first) L.invariant.3
-    (hits_from ps text L.first (end - L.first)) (rest_hits ps text (L.first + 64)) (block_step_to ps text L.first end c.loop-first-test.true e)
-    (omega (arith, c.requires.text_in_bounds, ap length (hits_all ps text))) (omega (arith, c.requires.text_in_bounds_2, ap length (hits_all ps text))) in
-    record {
-      set = c.requires.set;
-      first_le_end = (omega arith, omega arith, omega arith, c.begin_before.ensures);
-      hit_tables = c.requires.hit_tables;
-      grouped_len = c.requires.grouped_len;
-      first_in_bounds = room.0;
-      first_in_bounds_2 = room.1;
-    }
+    written_room (rise_in ps text) a.out.now L.out a.rises.now L.rises L.to (rest_hits ps text 0) (rest_hits ps text first) L.invariant.2
+    (hits_from ps text first (c.min-end.result - first)) (rest_hits ps text (first + 64)) (here (goal.at.overflow_add-to c).After-min-end) in
+    omega (arith, room.1, c.write_block-listed.ensures.hits_value)
 
-pub overflow_add-first : goal.overflow_add-first
-overflow_add-first c = omega arith
-
-pub overflow_add-block : goal.overflow_add-block
-overflow_add-block c = omega arith
-
-pub loop-first-smaller : goal.loop-first-smaller
-loop-first-smaller c = omega arith
-
-pub loop-first-preserved : goal.loop-first-preserved
-loop-first-preserved c =
-    let L = c.loop-first in
+pub loop-block-preserved : goal.loop-block-preserved
+loop-block-preserved c =
+    let L = c.loop-block in
     let a = c.args in
-    let ps = patterns_of a.set.now in
+    let t = a.tables.now in
+    let ps = patterns t in
     let text = a.text.now in
-    let all = rest_hits ps text 0 in
-    let rest = rest_hits ps text L.first in
-    let next = rest_hits ps text (L.first + 64) in
+    let f = rise_in ps text in
+    let first = 64 * L.block in
+    let lt : first < length text = omega (arith, c.loop-block-test.true, c.div_ceil-block-end.ensures) in
+    let next : 64 * (L.block + 1) ≡ first + 64 = omega arith in
     elim c.if-is_marked.branch [
-      | then-is_marked w ↦ let part = hits_from ps text L.first (w.block_end-end.result - L.first) in (
-        omega (arith, L.invariant.0),
-        omega (arith, w.done-is, w.block_end-end.ensures),
-        Since-same text c.if-is_marked.done c.if-is_marked.begin w.block_end-end.result w.write_block-listed.result.begin w.done-is w.begin-is
-            w.write_block-listed.ensures.since,
-        Written-part (rise_in ps text) a.out.now L.out a.rises.now L.rises 0 L.to all rest L.invariant.3 part next
-            (block_step_to ps text L.first w.block_end-end.result c.loop-first-test.true w.block_end-end.ensures)
-            c.if-is_marked.out c.if-is_marked.rises c.if-is_marked.to (w.out-is ∙ w.write_block-listed.ensures.out_after) (w.rises-is
-            ∙ w.write_block-listed.ensures.rises_after) (w.to-is ∙ w.write_block-listed.ensures.to_value),
+      | then-is_marked w ↦ let b = w.write_block-listed in (
+        omega (arith, w.done-is, w.min-end.ensures, next),
+        Since-same text c.if-is_marked.done c.if-is_marked.begin w.min-end.result b.result.begin w.done-is w.begin-is b.ensures.since,
+        rw (w.out-is, w.rises-is, w.to-is, next)
+            (Written-behind f a.out.now L.out a.rises.now L.rises L.to (rest_hits ps text 0) (rest_hits ps text first) L.invariant.2
+            (hits_from ps text first (w.min-end.result - first)) (rest_hits ps text (first + 64))
+            (block_step_to ps text first w.min-end.result lt w.min-end.ensures) b.new.out b.new.rises b.result.hits b.ensures.out_after
+            b.ensures.rises_after b.ensures.hits_value),
       )
       | else-is_marked w ↦ let none =
-          block_pass ps text a.marks.now L.first L.block (set_good a.set.now c.requires.set) c.requires.hits_marked
-          (sym c.is_marked.ensures ∙ w.if-is_marked.false) L.invariant.0 c.loop-first-test.true in (
-            omega (arith, L.invariant.0),
-            omega (arith, w.done-is, L.invariant.1),
-            Since-same text c.if-is_marked.done c.if-is_marked.begin L.done L.begin w.done-is w.begin-is L.invariant.2,
-            Written-none (rise_in ps text) a.out.now L.out a.rises.now L.rises 0 L.to all rest L.invariant.3
-                c.if-is_marked.out c.if-is_marked.rises c.if-is_marked.to next none w.out-is w.rises-is w.to-is,
+          block_pass ps text a.marks.now.words first L.block (set_good t.set.now t.good) c.requires.hits_marked
+          (sym c.is_marked.ensures ∙ w.if-is_marked.false) (omega arith) lt in (
+            omega (arith, w.done-is, L.invariant.0, next),
+            Since-same text c.if-is_marked.done c.if-is_marked.begin L.done L.begin w.done-is w.begin-is L.invariant.1,
+            rw (w.out-is, w.rises-is, w.to-is, next)
+                (Written-none f a.out.now L.out a.rises.now L.rises L.to (rest_hits ps text 0) (rest_hits ps text first) L.invariant.2
+                (rest_hits ps text (first + 64)) none),
           )
     ]
 
-pub shape_of-out : goal.shape_of-out
-shape_of-out c = c.loop-first.invariant.3.size
-
-pub shape_of-rises : goal.shape_of-rises
-shape_of-rises c = c.loop-first.invariant.3.rises_size
-
 pub returns : goal.returns
 returns c =
-    let L = c.loop-first in
+    let L = c.loop-block in
     let a = c.args in
-    let ps = patterns_of a.set.now in
+    let ps = patterns a.tables.now in
     let text = a.text.now in
-    let none = hits_end ps text L.first (length text) c.loop-first-test.false in
-    let all = hits_all ps text in
     let f = rise_in ps text in
+    let end : length text ≤ 64 * L.block = omega (arith, c.loop-block-test.false, c.div_ceil-block-end.ensures) in
+    let all = hits_all ps text in
     let e =
-    written_end f a.out.now L.out a.rises.now L.rises 0 L.to (rest_hits ps text 0) (rest_hits ps text L.first) L.invariant.3 none in record {
-      value = omega (arith, e.0, ap length all);
+    written_end f a.out.now L.out a.rises.now L.rises L.to (rest_hits ps text 0) (rest_hits ps text (64 * L.block)) L.invariant.2
+    (hits_end ps text (64 * L.block) (length text) end) in record {
+      value = e.0 ∙ ap length all;
       out_after = e.1 ∙ ap (λ (v : List (ℕ × ℕ)). sets a.out.now 0 (hit_words v)) all;
       rises_after = e.2 ∙ ap (λ (v : List (ℕ × ℕ)). sets a.rises.now 0 (map f v)) all;
     }

@@ -7,7 +7,7 @@ use Rattle.filter_passes.proofs.place.write_few.Given as goal
 
 abbrev pub invariant-loop-rest : goal.invariant-loop-rest
 invariant-loop-rest l =
-    Written (λ h. l.rise) l.initial.out l.out l.initial.rises l.rises l.at l.to (rank_hits l.numbers l.p (bits l.members))
+    Written (λ _. l.rise) l.initial.out l.out l.initial.rises l.rises l.to (rank_hits l.numbers l.p (bits l.members))
     (rank_hits l.numbers l.p (bits l.rest))
 
 abbrev pub decreases-loop-rest : goal.decreases-loop-rest

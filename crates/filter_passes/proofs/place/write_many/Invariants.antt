@@ -1,14 +1,9 @@
 -- What the loop has written and the hits of the numbers from i on make the hits.
-use Rattle.std.specs.Prelude.{◌+◌, ◌-◌, ◌≤◌}
-use Rattle.lists.proofs.Prelude.{length, drop}
+use Rattle.lists.proofs.Prelude.{drop}
 use Rattle.filter_passes.specs.Passes.{place_hits}
 use Rattle.filter_passes.proofs.Written.{Written}
 use Rattle.filter_passes.proofs.place.write_many.Given as goal
 
 abbrev pub invariant-loop-i : goal.invariant-loop-i
 invariant-loop-i l =
-    (l.i ≤ length l.numbers) × Written (λ h. l.rise) l.initial.out l.out l.initial.rises l.rises l.at (l.at + l.i) (place_hits l.p l.numbers)
-    (place_hits l.p (drop l.i l.numbers))
-
-abbrev pub decreases-loop-i : goal.decreases-loop-i
-decreases-loop-i l = l.n - l.i
+    Written (λ _. l.rise) l.initial.out l.out l.initial.rises l.rises l.i (place_hits l.p l.numbers) (place_hits l.p (drop l.i l.numbers))

@@ -1,183 +1,126 @@
 -- The loop takes the likely patterns group by group; what it has written and the hits of those that
 -- are left make the place's hits. The windows of a group are of one length, so the rise is one.
-use Rattle.std.specs.Prelude.{◌≡◌, ◌++◌, ◌+◌, ◌*◌, ◌<◌}
-use Rattle.lists.proofs.Prelude.{◌∙◌, ap, sym, subst, List, map, ℕ, suc, sets, length, get_or, take, w32, to_z, of_z, arith}
+use Rattle.std.specs.Prelude.{◌≡◌, ◌++◌, ◌-◌, ◌<◌}
+use Rattle.lists.proofs.Prelude.{◌∙◌, ap, sym, subst, List, ℕ, suc, sets, length, get_or, take, drop, w32, to_z, of_z, arith}
 use Rattle.lists.proofs.Order.{back_i32}
 use Rattle.bit_sets.specs.BitSets.{bits}
-use Rattle.pattern_set.specs.PatternSet.{patterns_of}
 use Rattle.pattern_set.proofs.IsSet.{set_good}
-use Rattle.pattern_set.proofs.Good.{good_set_parts}
-use Rattle.matching.specs.Matching.{hits_at, hit_words}
+use Rattle.matching.specs.Matching.{hits_at}
 use Rattle.matching.specs.Rise.{rise_in}
-use Rattle.filter_checks.specs.Equal.{EqualTo}
-use Rattle.filter_checks.specs.Groups.{Groups}
-use Rattle.filter_windows.specs.Groups.{NoneHit, HitGroup}
-use Rattle.filter_windows.proofs.RankSets.{likely-groups, none_left}
+use Rattle.filter_windows.specs.Groups.{HitGroup}
+use Rattle.filter_windows.specs.Patterns.{patterns}
+use Rattle.filter_windows.proofs.RankSets.{likely-groups}
 use Rattle.filter_passes.specs.Passes.{rank_hits}
 use Rattle.filter_passes.proofs.Places.{length-rank_hits}
 use Rattle.filter_passes.proofs.GroupHits.{hits_of, likely_all, none_all, group_first, group_rises, group_within}
-use Rattle.filter_passes.proofs.Written.{Written, Written-start, written_room, Written-part, written_end}
-use Rattle.filter_passes.proofs.place.write_place.Goals.{At-loop-rest, Else-g-eq0}
+use Rattle.filter_passes.proofs.Written.{Written, Written-start, written_room, part_room, Written-behind, written_end}
+use Rattle.filter_passes.proofs.place.write_place.Goals.{In-Some}
 use Rattle.filter_passes.proofs.place.write_place.Goals as goal
 
 -- the group has a hit
-group : (c : Else-g-eq0) →
-    let a = c.args in
-    let ps = patterns_of a.set.now in
-    let g = c.next_group-g.result in
-    (g.rank < length ps)
-    × HitGroup ps (take (suc a.p) a.text.now) c.loop-rest.rest (get_or a.equal.now g.rank 0) g.length g.rest
-group c = let e = c.if-g-eq0.false in c.next_group-g.ensures.rank_in_bounds (omega arith)
-
--- its ranks are those of equal patterns
-alike : (c : Else-g-eq0) →
-    let a = c.args in
-    EqualTo (patterns_of a.set.now) c.next_group-g.result.rank (get_or a.equal.now c.next_group-g.result.rank 0)
-alike c =
-    c.requires.check_tables.equals c.next_group-g.result.rank (group c).0
+group : (c : In-Some) →
+    let t = c.args.tables.now in
+    let g = c.in-Some.group in
+    (g.rank < length (patterns t))
+    × HitGroup (patterns t) (take (suc c.args.p) c.args.text.now) c.loop-group.rest (get_or t.equal.now g.rank 0) g.length g.rest
+group c = c.in-Some.ensures
 
 -- its hits come first of those left
-first : (c : Else-g-eq0) →
-    let a = c.args in
-    let ps = patterns_of a.set.now in
-    let g = c.next_group-g.result in
-    hits_of ps a.text.now a.p a.numbers.now c.loop-rest.rest
-    ≡ rank_hits a.numbers.now a.p (bits (get_or a.equal.now g.rank 0)) ++ hits_of ps a.text.now a.p a.numbers.now g.rest
+first : (c : In-Some) →
+    let t = c.args.tables.now in
+    let g = c.in-Some.group in
+    hits_of (patterns t) c.args.text.now c.args.p t.numbers.now c.loop-group.rest
+    ≡ rank_hits t.numbers.now c.args.p (bits (get_or t.equal.now g.rank 0)) ++ hits_of (patterns t) c.args.text.now c.args.p t.numbers.now g.rest
 first c =
-    let a = c.args in
-    let g = c.next_group-g.result in
-    group_first (patterns_of a.set.now) a.text.now a.p a.numbers.now (set_good a.set.now c.requires.set) c.requires.check_tables.ranks
-    c.loop-rest.rest (get_or a.equal.now g.rank 0) g.rank g.length g.rest (alike c) (group c).1
+    let t = c.args.tables.now in
+    let g = c.in-Some.group in
+    group_first (patterns t) c.args.text.now c.args.p t.numbers.now (set_good t.set.now t.good) t.filled.check.ranks
+    c.loop-group.rest (get_or t.equal.now g.rank 0) g.rank g.length g.rest (t.filled.check.equals g.rank (group c).0) (group c).1
 
--- all are written where none of those left has a hit
-done : (c : At-loop-rest) →
+pub loop-group-init : goal.loop-group-init
+loop-group-init c =
     let a = c.args in
-    let ps = patterns_of a.set.now in
-    let all = hits_at ps a.text.now a.p in
-    NoneHit ps (take (suc a.p) a.text.now) c.loop-rest.rest
-    → (c.loop-rest.to ≡ a.at + length all)
-    × (c.loop-rest.out ≡ sets a.out.now (2 * a.at) (hit_words all))
-    × (c.loop-rest.rises ≡ sets a.rises.now a.at (map (rise_in ps a.text.now) all))
-done c none =
-    let L = c.loop-rest in
-    let a = c.args in
-    let ps = patterns_of a.set.now in
-    written_end (rise_in ps a.text.now) a.out.now L.out a.rises.now L.rises a.at L.to (hits_at ps a.text.now a.p)
-    (hits_of ps a.text.now a.p a.numbers.now L.rest) L.invariant.0
-    (none_all ps a.text.now a.p a.numbers.now (set_good a.set.now c.requires.set) c.requires.check_tables.ranks L.rest none)
-
-pub loop-rest-init : goal.loop-rest-init
-loop-rest-init c =
-    let a = c.args in
-    let ps = patterns_of a.set.now in
+    let t = a.tables.now in
+    let ps = patterns t in
     let f = rise_in ps a.text.now in
     let all = hits_at ps a.text.now a.p in (
-      subst (λ (l : List (ℕ × ℕ)). Written f a.out.now a.out.now a.rises.now a.rises.now a.at a.at all l)
-          (sym (likely_all ps a.text.now a.p a.numbers.now (set_good a.set.now c.requires.set) c.requires.check_tables.ranks a.likely c.requires.set_of))
-          (Written-start f a.out.now a.rises.now a.at all),
+      subst (λ (l : List (ℕ × ℕ)). Written f a.out.now a.out.now a.rises.now a.rises.now 0 all l)
+          (sym (likely_all ps a.text.now a.p t.numbers.now (set_good t.set.now t.good) t.filled.check.ranks a.likely c.requires.set_of))
+          (Written-start f a.out.now a.rises.now all c.requires.room.0 c.requires.room.1),
       likely-groups ps (take (suc a.p) a.text.now) a.likely c.requires.set_of,
     )
 
-pub next_group-g-requires : goal.next_group-g-requires
-next_group-g-requires c = record {
-  set = c.requires.set;
-  p_in_bounds = c.requires.p_in_bounds.0;
-  likely_groups = c.loop-rest.invariant.1;
-  table_of = c.requires.table_of;
-  check_tables = c.requires.check_tables;
-}
-
-pub shape_of-out-then-g-eq0 : goal.shape_of-out-then-g-eq0
-shape_of-out-then-g-eq0 c = c.loop-rest.invariant.0.size
-
-pub shape_of-rises-then-g-eq0 : goal.shape_of-rises-then-g-eq0
-shape_of-rises-then-g-eq0 c = c.loop-rest.invariant.0.rises_size
-
--- no group is left
-pub returns-then-g-eq0 : goal.returns-then-g-eq0
-returns-then-g-eq0 c =
-    let e = done (goal.at.returns-then-g-eq0 c).At-loop-rest (c.next_group-g.ensures.none_hit c.if-g-eq0.true) in
-    record {
-      value = e.0;
-      out_after = e.1;
-      rises_after = e.2;
-    }
-
-pub rise_in-rise-requires : goal.rise_in-rise-requires
-rise_in-rise-requires c =
+pub rise_in-group_rise-requires : goal.rise_in-group_rise-requires
+rise_in-group_rise-requires c =
     let a = c.args in
-    let g = c.next_group-g.result in
-    let e = c.if-g-eq0.false in (
+    let t = a.tables.now in
+    let g = c.in-Some.group in
+    let k = group (goal.at.rise_in-group_rise-requires c).In-Some in (
       c.requires.p_in_bounds.0,
-      omega arith,
-      group_within (patterns_of a.set.now) a.text.now a.p a.numbers.now (set_good a.set.now c.requires.set) c.requires.check_tables.ranks
-          c.loop-rest.rest (get_or a.equal.now g.rank 0) g.rank g.length g.rest (alike (goal.at.rise_in-rise-requires c).Else-g-eq0)
-          (group (goal.at.rise_in-rise-requires c).Else-g-eq0).1 (group (goal.at.rise_in-rise-requires c).Else-g-eq0).0 c.requires.p_in_bounds.0,
+      g.some,
+      group_within (patterns t) a.text.now a.p t.numbers.now (set_good t.set.now t.good) t.filled.check.ranks
+          c.loop-group.rest (get_or t.equal.now g.rank 0) g.rank g.length g.rest (t.filled.check.equals g.rank k.0) k.1 k.0 c.requires.p_in_bounds.0,
     )
 
-pub overflow_cast-p : goal.overflow_cast-p
-overflow_cast-p c = omega (arith, c.requires.p_in_bounds.0, c.requires.p_in_bounds.1)
-
-pub write_group-to-requires : goal.write_group-to-requires
-write_group-to-requires c =
-    let L = c.loop-rest in
+pub write_group-to-requires-clause-room : goal.write_group-to-requires-clause-room
+write_group-to-requires-clause-room c =
+    let L = c.loop-group in
     let a = c.args in
-    let ps = patterns_of a.set.now in
-    let g = c.next_group-g.result in
-    let count = c.pattern_count-k.ensures in
-    let part = rank_hits a.numbers.now a.p (bits (get_or a.equal.now g.rank 0)) in
-    let size = length-rank_hits a.numbers.now a.p (bits (get_or a.equal.now g.rank 0)) in
+    let t = a.tables.now in
+    let ps = patterns t in
+    let g = c.in-Some.group in
+    let ranks = bits (get_or t.equal.now g.rank 0) in
     let room =
-    written_room (rise_in ps a.text.now) a.out.now L.out a.rises.now L.rises a.at L.to (hits_at ps a.text.now a.p)
-    (hits_of ps a.text.now a.p a.numbers.now L.rest) L.invariant.0 part (hits_of ps a.text.now a.p a.numbers.now g.rest)
-    (first (goal.at.write_group-to-requires c).Else-g-eq0)
-    c.requires.p_in_bounds_2.0 c.requires.p_in_bounds_2.1 in record {
-      r_lt_k = (
-        omega (arith, (group (goal.at.write_group-to-requires c).Else-g-eq0).0, count),
-        omega (arith, count, (good_set_parts ps (set_good a.set.now c.requires.set)).0),
-        c.requires.grouped_len.0,
-        subst (λ (k : ℕ). Groups k a.numbers.now a.equal.now a.grouped.now a.words.now) (sym count) c.requires.grouped_len.1,
-      );
-      r_in_bounds = (rw size at room);
-    }
+    part_room (rise_in ps a.text.now) a.out.now L.out a.rises.now L.rises L.to (hits_at ps a.text.now a.p) (hits_of ps a.text.now a.p t.numbers.now L.rest)
+    L.invariant.0 (rank_hits t.numbers.now a.p ranks) (hits_of ps a.text.now a.p t.numbers.now g.rest)
+    (first (goal.at.write_group-to-requires-clause-room c).In-Some) in
+    rw (length-rank_hits t.numbers.now a.p ranks) at room
 
-pub loop-rest-smaller : goal.loop-rest-smaller
-loop-rest-smaller c = (group (goal.at.loop-rest-smaller c).Else-g-eq0).1.less
-
-pub loop-rest-preserved : goal.loop-rest-preserved
-loop-rest-preserved c =
-    let L = c.loop-rest in
+pub overflow_add-to : goal.overflow_add-to
+overflow_add-to c =
+    let L = c.loop-group in
     let a = c.args in
-    let ps = patterns_of a.set.now in
-    let g = c.next_group-g.result in
+    let t = a.tables.now in
+    let ps = patterns t in
+    let g = c.in-Some.group in
+    let ranks = bits (get_or t.equal.now g.rank 0) in
+    let room =
+    written_room (rise_in ps a.text.now) a.out.now L.out a.rises.now L.rises L.to (hits_at ps a.text.now a.p) (hits_of ps a.text.now a.p t.numbers.now L.rest)
+    L.invariant.0 (rank_hits t.numbers.now a.p ranks) (hits_of ps a.text.now a.p t.numbers.now g.rest) (first (goal.at.overflow_add-to c).In-Some) in
+    omega (arith, room.1, length-rank_hits t.numbers.now a.p ranks, c.write_group-to.ensures.value)
+
+pub loop-group-preserved : goal.loop-group-preserved
+loop-group-preserved c =
+    let L = c.loop-group in
+    let a = c.args in
+    let t = a.tables.now in
+    let ps = patterns t in
+    let g = c.in-Some.group in
     let f = rise_in ps a.text.now in
-    let ranks = bits (get_or a.equal.now g.rank 0) in
-    let part = rank_hits a.numbers.now a.p ranks in
+    let ranks = bits (get_or t.equal.now g.rank 0) in
+    let k = group (goal.at.loop-group-preserved c).In-Some in
     let one =
-    group_rises ps a.text.now a.p a.numbers.now (set_good a.set.now c.requires.set) c.requires.check_tables.ranks L.rest
-    (get_or a.equal.now g.rank 0) g.rank g.length g.rest (alike (goal.at.loop-rest-preserved c).Else-g-eq0)
-    (group (goal.at.loop-rest-preserved c).Else-g-eq0).1 (to_z w32 (of_z w32 c.rise_in-rise.result))
-    (back_i32 (record { sfits = c.rise_in-rise.type_inv }) ∙ c.rise_in-rise.ensures) in (
-      Written-part f a.out.now L.out a.rises.now L.rises a.at L.to (hits_at ps a.text.now a.p)
-          (hits_of ps a.text.now a.p a.numbers.now L.rest) L.invariant.0 part (hits_of ps a.text.now a.p a.numbers.now g.rest)
-          (first (goal.at.loop-rest-preserved c).Else-g-eq0)
+    group_rises ps a.text.now a.p t.numbers.now (set_good t.set.now t.good) t.filled.check.ranks L.rest (get_or t.equal.now g.rank 0) g.rank g.length g.rest
+    (t.filled.check.equals g.rank k.0) k.1 (to_z w32 (of_z w32 c.rise_in-group_rise.result))
+    (back_i32 (record { sfits = c.rise_in-group_rise.type_inv }) ∙ c.rise_in-group_rise.ensures) in (
+      Written-behind f a.out.now L.out a.rises.now L.rises L.to (hits_at ps a.text.now a.p) (hits_of ps a.text.now a.p t.numbers.now L.rest) L.invariant.0
+          (rank_hits t.numbers.now a.p ranks) (hits_of ps a.text.now a.p t.numbers.now g.rest) (first (goal.at.loop-group-preserved c).In-Some)
           c.write_group-to.new.out c.write_group-to.new.rises c.write_group-to.result c.write_group-to.ensures.out_after
-          (c.write_group-to.ensures.rises_after ∙ ap (sets L.rises L.to) one)
-          (c.write_group-to.ensures.value ∙ ap (λ (k : ℕ). L.to + k) (sym (length-rank_hits a.numbers.now a.p ranks))),
-      (group (goal.at.loop-rest-preserved c).Else-g-eq0).1.groups,
+          (c.write_group-to.ensures.rises_after ∙ ap (sets (take (length L.rises - L.to) (drop L.to L.rises)) 0) one)
+          (c.write_group-to.ensures.value ∙ sym (length-rank_hits t.numbers.now a.p ranks)),
+      k.1.groups,
     )
-
-pub shape_of-out : goal.shape_of-out
-shape_of-out c = c.loop-rest.invariant.0.size
-
-pub shape_of-rises : goal.shape_of-rises
-shape_of-rises c = c.loop-rest.invariant.0.rises_size
 
 pub returns : goal.returns
 returns c =
+    let L = c.loop-group in
     let a = c.args in
-    let e = done (goal.at.returns c).At-loop-rest (none_left (patterns_of a.set.now) (take (suc a.p) a.text.now) c.loop-rest.rest c.loop-rest-test.false) in
-    record {
+    let t = a.tables.now in
+    let ps = patterns t in
+    let e =
+    written_end (rise_in ps a.text.now) a.out.now L.out a.rises.now L.rises L.to (hits_at ps a.text.now a.p)
+    (hits_of ps a.text.now a.p t.numbers.now L.rest) L.invariant.0
+    (none_all ps a.text.now a.p t.numbers.now (set_good t.set.now t.good) t.filled.check.ranks L.rest c.in_default.ensures) in record {
       value = e.0;
       out_after = e.1;
       rises_after = e.2;

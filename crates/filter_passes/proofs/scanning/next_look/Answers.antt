@@ -1,174 +1,74 @@
 -- The loop keeps where it stands, and that the places behind it have no candidates.
-use Rattle.std.specs.Prelude.{◌≡◌, ◌+◌, ◌-◌, ◌%◌, ◌≤◌, ◌<◌}
-use Rattle.lists.proofs.Prelude.{◌∙◌, ap, sym, refl, subst, true, ℕ, suc, pos, length, get_or, take}
-use Rattle.lists.proofs.Prelude.{add-one, mod-eq_of_lt, arith}
-use Rattle.gaps.specs.Gaps.{is_gap}
-use Rattle.pattern_set.specs.PatternSet.{patterns_of}
+use Rattle.std.specs.Prelude.{◌+◌, ◌-◌, ◌<◌}
+use Rattle.lists.proofs.Prelude.{◌∙◌, sym, refl, subst, ℕ, suc, take, add-one, mod-eq_of_lt, arith}
 use Rattle.pattern_set.proofs.IsSet.{set_good}
 use Rattle.filter_plan.specs.Plan.{text_fingerprint}
 use Rattle.filter_windows.specs.Looks.{Since, Alike}
+use Rattle.filter_windows.specs.Patterns.{patterns}
 use Rattle.filter_windows.proofs.Samples.{Since-sample}
-use Rattle.filter_windows.proofs.Lookups.{set_fingerprint_length, own_fingerprint_lt, Looked-none, Looked-candidates}
-use Rattle.filter_passes.specs.Passes.{Stands, NoneFrom}
+use Rattle.filter_windows.proofs.Lookups.{own_fingerprint_lt, Looked-none, Looked-candidates}
+use Rattle.filter_passes.specs.Passes.{NoneFrom}
 use Rattle.filter_passes.proofs.Scan.{none_more}
-use Rattle.filter_passes.proofs.scanning.next_look.Goals.{After-alike_at-alike, At-loop-alike, Else-alike-ne0, Else-is_gap}
-use Rattle.filter_passes.proofs.scanning.next_look.Goals.{else-is_gap+else-alike-ne0+then-text-q, else-is_gap+then-alike-ne0, then-is_gap}
+use Rattle.filter_passes.proofs.scanning.next_look.Goals.{After-alike_at-alike, Else-alike-ne0}
 use Rattle.filter_passes.proofs.scanning.next_look.Goals as goal
 
--- at a sample the samples begin where they did
-begun : (c : Else-is_gap) →
-    let a = c.args in
-    Since a.text.now (suc c.loop-alike.q) a.begin
-begun c =
-    let L = c.loop-alike in
-    let a = c.args in
-    Since-sample a.text.now L.q a.begin L.invariant.0 (sym c.is_gap.ensures ∙ c.if-is_gap.false) L.invariant.1.2
-
--- the patterns that have the set fingerprint
-alike : (c : After-alike_at-alike) →
-    let a = c.args in
-    Alike a.setlow.now a.sethigh.now (text_fingerprint a.b (take (suc c.loop-alike.q) a.text.now)) c.alike_at-alike.result
-alike c =
-    let i = c.loop-alike.invariant in
-    c.alike_at-alike.ensures (take (suc c.loop-alike.q) c.args.text.now) (i.1.1 i.0)
+-- at a sample the samples begin where they did, and the patterns that have the set fingerprint are
+-- looked up
+looked : (c : After-alike_at-alike) →
+    let t = c.args.tables.now in
+    let q = c.loop-place.place in
+    Since c.args.text.now (suc q) c.args.from.begin
+    × Alike t.low.now t.high.now (text_fingerprint t.span (take (suc q) c.args.text.now)) c.alike_at-alike.result
+looked c =
+    let i = c.loop-place.invariant in
+    let q = c.loop-place.place in
+    let text = c.args.text.now in
+    (Since-sample text q c.args.from.begin i.0 (sym c.is_gap.ensures ∙ c.if-is_gap.false) i.1.2, c.alike_at-alike.ensures (take (suc q) text) (i.1.1 i.0))
 
 -- the place has no candidates
 passed : (c : Else-alike-ne0) →
-    let a = c.args in
-    Since a.text.now (c.loop-alike.q + 1) a.begin × NoneFrom (patterns_of a.set.now) a.text.now a.p (c.loop-alike.q + 1)
+    let q = c.loop-place.place + 1 in
+    Since c.args.text.now q c.args.from.begin × NoneFrom (patterns c.args.tables.now.tables.now) c.args.text.now c.args.from.place q
 passed c =
-    let i = c.loop-alike.invariant in
-    let q = c.loop-alike.q in
-    let a = c.args in
-    let ps = patterns_of a.set.now in
-    let text = a.text.now in
-    let since = begun (goal.at.Else-alike-ne0 c).Else-is_gap in
-    let n = suc q - a.begin in
-    let fingerprint = text_fingerprint a.b (take (suc q) text) in
+    let i = c.loop-place.invariant in
+    let q = c.loop-place.place in
+    let t = c.args.tables.now in
+    let ps = patterns t.tables.now in
+    let text = c.args.text.now in
+    let here = looked (goal.at.Else-alike-ne0 c).After-alike_at-alike in
+    let n = suc q - c.args.from.begin in
+    let fingerprint = text_fingerprint t.span (take (suc q) text) in
     let none =
-    Looked-candidates ps text q a.begin n (set_good a.set.now c.requires.set.0) i.0 since refl a.setlow.now a.sethigh.now a.fits.now
-    fingerprint a.b 0 c.requires.set.2 c.requires.set.1 refl
-    (Looked-none a.setlow.now a.sethigh.now a.fits.now fingerprint n c.alike_at-alike.result (alike (goal.at.Else-alike-ne0 c).After-alike_at-alike)
-    c.if-alike-ne0.false) in
-    (subst (λ (m : ℕ). Since text m a.begin) (sym (add-one q)) since, none_more ps text a.p q i.3 none)
+    Looked-candidates ps text q c.args.from.begin n (set_good t.tables.now.set.now t.tables.now.good) i.0 here.0 refl t.low.now t.high.now
+    t.tables.now.fits.now fingerprint t.span 0 t.filled t.span_is refl
+    (Looked-none t.low.now t.high.now t.tables.now.fits.now fingerprint n c.alike_at-alike.result here.1 c.if-alike-ne0.false) in
+    (subst (λ (m : ℕ). Since text m c.args.from.begin) (sym (add-one q)) here.0, none_more ps text c.args.from.place q i.3 none)
 
--- what is to be told of a place, of the bits up to it and of the patterns alike
-abbrev Ends : (c : At-loop-alike) (q alike : ℕ) → Type 0
-Ends c q alike =
-    let a = c.args in
-    let text = a.text.now in
-    (Stands text q (c.loop-alike.bits % 65536) a.begin × (a.p ≤ q))
-    × (NoneFrom (patterns_of a.set.now) text a.p q
-    × ((alike ≡ 0 → q < length text → is_gap (get_or text q (pos 0)) ≡ true)
-    × ((alike ≡ 0 → ⊥) → (q < length text) × Since text (suc q) a.begin
-    × Alike a.setlow.now a.sethigh.now (text_fingerprint a.b (take (suc q) text)) alike)))
-
-as-came : (c : At-loop-alike) (q' q alike' alike : ℕ) → q' ≡ q → alike' ≡ alike → Ends c q alike → Ends c q' alike'
-as-came c q' q alike' alike e f here = subst (λ (n : ℕ). Ends c n alike') (sym e) (subst (λ (s : ℕ). Ends c q s) (sym f) here)
-
-pub loop-alike-init : goal.loop-alike-init
-loop-alike-init c =
-    let a = c.args in
-    let own = c.requires.p_in_bounds.1.1 c.requires.p_in_bounds.0 in
-    let small : a.own < 65536 = omega (arith, own, own_fingerprint_lt (take (suc a.p) a.text.now)) in (
-      c.requires.p_in_bounds.0,
-      (c.requires.p_in_bounds.1.0, (λ h. mod-eq_of_lt small ∙ own), c.requires.p_in_bounds.1.2),
+pub loop-place-init : goal.loop-place-init
+loop-place-init c =
+    let from = c.args.from in
+    let h = c.requires.place_in_bounds in
+    let own = h.1.1 h.0 in
+    let small : from.own < 65536 = omega (arith, own, own_fingerprint_lt (take (suc from.place) c.args.text.now)) in (
+      h.0,
+      (h.1.0, (λ _. mod-eq_of_lt small ∙ own), h.1.2),
       omega arith,
       (λ i h k. absurd (let z : ⊥ = omega arith in z)),
-      refl,
     )
 
-pub is_gap-requires : goal.is_gap-requires
-is_gap-requires c = c.loop-alike.invariant.0
+pub loop-place-preserved : goal.loop-place-preserved
+loop-place-preserved c =
+    let on = passed (goal.at.loop-place-preserved c).Else-alike-ne0 in
+    let h = c.loop-place.invariant.2 in
+    (omega arith, (omega arith, (λ _. c.bits_next-bits.ensures), on.0), omega arith, on.1)
 
-pub alike_at-alike-requires : goal.alike_at-alike-requires
-alike_at-alike-requires c =
-    let set = c.args.set.now in
-    set_fingerprint_length (patterns_of set) c.args.b (set_good set c.requires.set.0) c.requires.set.1
+pub returns-then-alike-ne0 : goal.returns-then-alike-ne0
+returns-then-alike-ne0 c =
+    let i = c.loop-place.invariant in
+    let here = looked (goal.at.returns-then-alike-ne0 c).After-alike_at-alike in
+    (i.1, i.2, i.0, i.3, (λ e. absurd (c.if-alike-ne0.true e)), (λ _. here))
 
-pub bits_next-bits-requires : goal.bits_next-bits-requires
-bits_next-bits-requires c =
-    let i = c.loop-alike.invariant in
-    let text = c.args.text.now in
-    (omega arith, omega (arith, c.if-text-q.false), i.1.1 i.0 ∙ ap (λ (n : ℕ). text_fingerprint 17 (take n text)) (sym (add-one c.loop-alike.q)))
-
-pub loop-alike-smaller : goal.loop-alike-smaller
-loop-alike-smaller c =
-    let i = c.loop-alike.invariant in
-    omega (arith, i.0)
-
-pub loop-alike-preserved : goal.loop-alike-preserved
-loop-alike-preserved c =
-    let i = c.loop-alike.invariant in
-    let on = passed (goal.at.loop-alike-preserved c).Else-alike-ne0 in
-    (omega (arith, c.if-text-q.false), (omega (arith, i.0), (λ h. c.bits_next-bits.ensures), on.0), omega (arith, i.2), on.1, c.if-alike-ne0.false)
-
--- at a gap, at a place whose set fingerprint patterns have, or behind the text
-pub returns : goal.returns
-returns c =
-    let i = c.loop-alike.invariant in
-    let q = c.loop-alike.q in
-    let j = c.if-is_gap in
-    let text = c.args.text.now in
-    elim j.branch [
-      | then-is_gap w ↦ record {
-        stands = (as-came (goal.at.returns c).At-loop-alike j.q q j.alike c.loop-alike.alike w.q-is w.alike-is
-            ((i.1, i.2), (i.3, ((λ e h. sym c.is_gap.ensures ∙ w.if-is_gap.true), (λ e. absurd (e i.4)))))).0;
-        none_from = (as-came (goal.at.returns c).At-loop-alike j.q q j.alike c.loop-alike.alike w.q-is w.alike-is
-            ((i.1, i.2), (i.3, ((λ e h. sym c.is_gap.ensures ∙ w.if-is_gap.true), (λ e. absurd (e i.4)))))).1.0;
-        pos_value = (as-came (goal.at.returns c).At-loop-alike j.q q j.alike c.loop-alike.alike w.q-is w.alike-is
-            ((i.1, i.2), (i.3, ((λ e h. sym c.is_gap.ensures ∙ w.if-is_gap.true), (λ e. absurd (e i.4)))))).1.1.0;
-        place_in_bounds = (as-came (goal.at.returns c).At-loop-alike j.q q j.alike c.loop-alike.alike w.q-is w.alike-is
-            ((i.1, i.2), (i.3, ((λ e h. sym c.is_gap.ensures ∙ w.if-is_gap.true), (λ e. absurd (e i.4)))))).1.1.1;
-      }
-      | else-is_gap+then-alike-ne0 w ↦ let s : Else-is_gap = record {
-        before = record { before = c.before.before; if-is_gap = w.if-is_gap };
-        type_inv = record
-            { set = c.type_inv.set };
-      } in
-          let k : After-alike_at-alike = record {
-            before = record { before = s.before; alike_at-alike = w.alike_at-alike };
-            type_inv = record
-                { set = c.type_inv.set };
-          } in
-          record {
-            stands = (as-came (goal.at.returns c).At-loop-alike j.q q j.alike w.alike_at-alike.result w.q-is w.alike-is
-                ((i.1, i.2), (i.3, ((λ e. absurd (w.if-alike-ne0.true e)), (λ e. (i.0, begun s, alike k)))))).0;
-            none_from = (as-came (goal.at.returns c).At-loop-alike j.q q j.alike w.alike_at-alike.result w.q-is w.alike-is
-                ((i.1, i.2), (i.3, ((λ e. absurd (w.if-alike-ne0.true e)), (λ e. (i.0, begun s, alike k)))))).1.0;
-            pos_value = (as-came (goal.at.returns c).At-loop-alike j.q q j.alike w.alike_at-alike.result w.q-is w.alike-is
-                ((i.1, i.2), (i.3, ((λ e. absurd (w.if-alike-ne0.true e)), (λ e. (i.0, begun s, alike k)))))).1.1.0;
-            place_in_bounds = (as-came (goal.at.returns c).At-loop-alike j.q q j.alike w.alike_at-alike.result w.q-is w.alike-is
-                ((i.1, i.2), (i.3, ((λ e. absurd (w.if-alike-ne0.true e)), (λ e. (i.0, begun s, alike k)))))).1.1.1;
-          }
-      | else-is_gap+else-alike-ne0+then-text-q w ↦ let s : Else-is_gap = record {
-        before = record { before = c.before.before; if-is_gap = w.if-is_gap };
-        type_inv = record
-            { set = c.type_inv.set };
-      } in
-          let k : After-alike_at-alike = record {
-            before = record { before = s.before; alike_at-alike = w.alike_at-alike };
-            type_inv = record
-                { set = c.type_inv.set };
-          } in
-          let on = passed (record { before = record { before = k.before; if-alike-ne0 = w.if-alike-ne0 }; type_inv = record { set = c.type_inv.set } }) in
-          let over : q + 1 < length text → ⊥ = λ h. omega (arith, h, w.if-text-q.true) in
-          record {
-            stands = (as-came (goal.at.returns c).At-loop-alike j.q (q + 1) j.alike w.alike_at-alike.result w.q-is w.alike-is (
-              ((omega (arith, i.0), (λ h. absurd (over h)), on.0), omega (arith, i.2)),
-              (on.1, ((λ e h. absurd (over h)), (λ e. absurd (e w.if-alike-ne0.false)))),
-            )).0;
-            none_from = (as-came (goal.at.returns c).At-loop-alike j.q (q + 1) j.alike w.alike_at-alike.result w.q-is w.alike-is (
-              ((omega (arith, i.0), (λ h. absurd (over h)), on.0), omega (arith, i.2)),
-              (on.1, ((λ e h. absurd (over h)), (λ e. absurd (e w.if-alike-ne0.false)))),
-            )).1.0;
-            pos_value = (as-came (goal.at.returns c).At-loop-alike j.q (q + 1) j.alike w.alike_at-alike.result w.q-is w.alike-is (
-              ((omega (arith, i.0), (λ h. absurd (over h)), on.0), omega (arith, i.2)),
-              (on.1, ((λ e h. absurd (over h)), (λ e. absurd (e w.if-alike-ne0.false)))),
-            )).1.1.0;
-            place_in_bounds = (as-came (goal.at.returns c).At-loop-alike j.q (q + 1) j.alike w.alike_at-alike.result w.q-is w.alike-is (
-              ((omega (arith, i.0), (λ h. absurd (over h)), on.0), omega (arith, i.2)),
-              (on.1, ((λ e h. absurd (over h)), (λ e. absurd (e w.if-alike-ne0.false)))),
-            )).1.1.1;
-          }
-    ]
+pub returns-then-text-place : goal.returns-then-text-place
+returns-then-text-place c =
+    let on = passed (goal.at.returns-then-text-place c).Else-alike-ne0 in
+    λ i h k. on.1 i h (omega (arith, k, c.if-text-place.true))

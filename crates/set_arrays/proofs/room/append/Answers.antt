@@ -1,16 +1,11 @@
--- `room::append` makes room and has the distances written into the part of the array that starts
--- behind the set's own.
-use Rattle.std.specs.Prelude.{◌+◌, ◌-◌}
-use Rattle.lists.proofs.Prelude.{refl, length}
-use Rattle.cartesian.specs.Cartesian.{distances}
+-- The distances are written into the part of the array that starts behind the set's own.
+use Rattle.lists.proofs.Prelude.{refl, sym}
 use Rattle.cartesian.proofs.Seek.{length-distances}
-use Rattle.set_arrays.proofs.Laws.{append_part}
+use Rattle.set_arrays.proofs.Appending.{append_words}
 use Rattle.set_arrays.proofs.room.append.Goals as goal
 
 pub returns : goal.returns
 returns c =
     let a = c.args in
-    let r = c.make_room in
-    let p = c.parent_distances in
-    append_part a.k a.n (length a.values.now) (4 + a.k + a.n) (length r.new.words - (4 + a.k + a.n)) (distances a.values.now)
-    a.words.now r.new.words p.new.out (length-distances a.values.now) r.ensures refl refl p.ensures
+    append_words a.words.now _ _ _ _ _ _ _ _ c.requires.set c.requires.sizes.0 c.requires.sizes.1 (sym (length-distances a.values.now)) c.requires.room.2
+    c.make_room.ensures refl refl c.parent_distances.ensures

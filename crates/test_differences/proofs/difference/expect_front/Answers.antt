@@ -1,28 +1,28 @@
--- `expect_front` meets its contract: the arrays agree to the end of the one exactly if the other
--- begins with it.
-use Rattle.std.specs.Prelude.{◌≡◌}
-use Rattle.lists.proofs.Prelude.{◌∙◌, ap, sym, ℕ, true, false, eqb, eq-eqb, ne_eqb, length, begins}
-use Rattle.test_inputs.specs.Arrays.{alike, before}
-use Rattle.test_inputs.proofs.Alike.{words_left}
-use Rattle.test_differences.specs.Difference.{differ_at, compared_held, compared_front}
+-- `expect_front` meets its contract: an array that ends too soon, a place that holds another
+-- number, one more, and what is behind them.
+use mir.Syntax.{w128}
+use Rattle.lists.proofs.Prelude.{◌∙◌, sym, ap, refl, pos, arith, to_z-of_z}
+use Rattle.test_differences.specs.Difference.{differs}
+use Rattle.test_differences.proofs.Items.{front_short, front_stop, front_more, front_end}
 use Rattle.test_differences.proofs.difference.expect_front.Goals as goal
 
-pub returns-then-i-expected : goal.returns-then-i-expected
-unfolding compared_front
-returns-then-i-expected c =
-    let a = c.args in
-    let e = a.expected.now in
-    let g = a.got.now in
-    let all = c.if-i-expected.true in
-    let same : begins g e ≡ true = sym (words_left e g) ∙ eq-eqb (alike eqb e g) (length e) (sym c.alike-i.ensures.2 ∙ all) in
-    rw same (c.expect_held.ensures ∙ ap (λ (i : ℕ). compared_held g i before) all)
+pub returns-then-i-got : goal.returns-then-i-got
+returns-then-i-got g c =
+    c.differ.ensures
+    ∙ ap (λ x. differs c.args.part c.loop-i.i x (pos 0)) (to_z-of_z w128 c.wide.result (record { sfits = c.wide.type_inv }) ∙ c.wide.ensures)
+    ∙ front_short g.T.Number.value _ _ _ _ _ _ _ c.loop-i.invariant c.loop-i-test.true c.index-expected-i.is c.if-i-got.true
+
+pub returns-then-is_some : goal.returns-then-is_some
+returns-then-is_some g c =
+    front_stop g.T.Number.value _ _ _ _ _ _ _ _ _ c.loop-i.invariant c.loop-i-test.true c.index-expected-i-in-loop-i.is
+    c.if-i-got.false c.index-got-i.is c.expect_at-d.ensures (sym c.is_some.ensures ∙ c.if-is_some.true)
+
+pub loop-i-preserved : goal.loop-i-preserved
+loop-i-preserved g c =
+    front_more g.T.Number.value _ _ _ _ _ _ _ _ _ c.loop-i.invariant c.loop-i-test.true c.index-expected-i-in-loop-i.is
+    c.if-i-got.false c.index-got-i.is c.expect_at-d.ensures (sym c.is_some.ensures ∙ c.if-is_some.false)
 
 pub returns : goal.returns
-unfolding compared_front
-returns c =
-    let a = c.args in
-    let e = a.expected.now in
-    let g = a.got.now in
-    let at = c.alike-i.ensures.2 in
-    let other : begins g e ≡ false = sym (words_left e g) ∙ ne_eqb (alike eqb e g) (length e) (λ q. c.if-i-expected.false (at ∙ q)) in
-    rw other (c.differ_at.ensures ∙ ap (differ_at e g) at)
+returns g c =
+    c.expect_held.ensures
+    ∙ front_end g.T.Number.value _ _ _ _ c.loop-i.i _ _ c.loop-i.invariant (omega (arith, c.loop-i-test.false, c.loop-i.auto.i-end)) refl

@@ -1,24 +1,17 @@
--- `expect_held` meets its contract: the place found is behind the end exactly if all is held.
-use Rattle.lists.proofs.Prelude.{◌∙◌, ap, ap₂, refl, ℕ, get_or, arith}
-use Rattle.test_inputs.proofs.Alike.{held_yes, held_no}
-use Rattle.test_differences.specs.declared.difference.Part.{Part}
-use Rattle.test_differences.specs.declared.difference.Difference.{Difference}
-use Rattle.test_differences.specs.Difference.{compared_held}
+-- `expect_held` meets its contract: a place that holds another number, one more, and the end.
+use Rattle.lists.proofs.Prelude.{◌∙◌, sym}
+use Rattle.test_differences.proofs.Items.{held_stop, held_more, held_end}
 use Rattle.test_differences.proofs.difference.expect_held.Goals as goal
 
-pub returns-then-i-got : goal.returns-then-i-got
-unfolding compared_held
-returns-then-i-got c =
-    let a = c.args in
-    let at = c.held_until-i.ensures.1 in
-    let end = c.if-i-got.true in
-    rw (held_yes a.got.now a.from a.v (omega arith)) refl
+pub returns-then-is_some : goal.returns-then-is_some
+returns-then-is_some g c =
+    held_stop g.T.Number.value _ _ _ _ _ _ _ c.loop-i.invariant c.loop-i-test.true c.index-got-i.is
+    c.expect_at-d.ensures (sym c.is_some.ensures ∙ c.if-is_some.true)
+
+pub loop-i-preserved : goal.loop-i-preserved
+loop-i-preserved g c =
+    held_more g.T.Number.value _ _ _ _ _ _ _ c.loop-i.invariant c.loop-i-test.true c.index-got-i.is
+    c.expect_at-d.ensures (sym c.is_some.ensures ∙ c.if-is_some.false)
 
 pub returns : goal.returns
-unfolding compared_held
-returns c =
-    let a = c.args in
-    let at = c.held_until-i.ensures.1 in
-    let inside = c.if-i-got.false in
-    rw (held_no a.got.now a.from a.v (omega arith))
-    (ap₂ (λ (i g : ℕ). Difference.Differs Part.Word i a.v g) at (c.number.ensures.0 ∙ ap (λ (i : ℕ). get_or a.got.now i 0) at))
+returns g c = held_end g.T.Number.value _ _ _ _ _ c.loop-i.invariant c.loop-i-test.false

@@ -1,10 +1,6 @@
--- `scatter_gaps` is safe and ends.
-use Rattle.std.specs.Prelude.{◌≡◌, ◌-◌, ◌<◌}
-use Rattle.lists.proofs.Prelude.{length}
+-- `scatter_gaps`: a seed to go on with is below the modulus.
+use Rattle.std.specs.Prelude.{◌<◌}
 use Rattle.test_inputs.proofs.texts.scatter_gaps.Given as goal
 
-abbrev pub invariant-loop-i : goal.invariant-loop-i
-invariant-loop-i l = (length l.out ≡ length l.initial.out) × (l.s < 2147483647)
-
-abbrev pub decreases-loop-i : goal.decreases-loop-i
-decreases-loop-i l = l.m - l.i
+abbrev pub invariant-loop-x : goal.invariant-loop-x
+invariant-loop-x l = l.s < 2147483647

@@ -1,7 +1,0 @@
--- `children` meets its contract: it reads the sixth word of the record.
-use Rattle.automaton_model.specs.Automaton.{record_of}
-use Rattle.automaton_lookup.proofs.children.Goals as goal
-
-pub returns : goal.returns
-unfolding record_of
-returns c = c.field.ensures

@@ -1,7 +1,0 @@
--- `failure` meets its contract: it reads the third word of the record.
-use Rattle.automaton_model.specs.Automaton.{record_of}
-use Rattle.automaton_lookup.proofs.failure.Goals as goal
-
-pub returns : goal.returns
-unfolding record_of
-returns c = c.field.ensures

@@ -1,7 +1,0 @@
--- `first_child` meets its contract: it reads the fifth word of the record.
-use Rattle.automaton_model.specs.Automaton.{record_of}
-use Rattle.automaton_lookup.proofs.first_child.Goals as goal
-
-pub returns : goal.returns
-unfolding record_of
-returns c = c.field.ensures

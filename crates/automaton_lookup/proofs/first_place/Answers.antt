@@ -1,7 +1,0 @@
--- `first_place` meets its contract: it reads the seventh word of the record.
-use Rattle.automaton_model.specs.Automaton.{record_of}
-use Rattle.automaton_lookup.proofs.first_place.Goals as goal
-
-pub returns : goal.returns
-unfolding record_of
-returns c = c.field.ensures

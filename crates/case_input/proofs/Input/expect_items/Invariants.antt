@@ -1,0 +1,6 @@
+-- `expect_items`: the input is read forward.
+use Rattle.std.specs.Prelude.{◌≤◌}
+use Rattle.case_input.proofs.Input.expect_items.Given as goal
+
+abbrev pub invariant-loop-i : goal.invariant-loop-i
+invariant-loop-i g l = l.initial.self.at ≤ l.self.at

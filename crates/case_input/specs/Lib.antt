@@ -1,1 +1,0 @@
--- The root of the crate's definitions.

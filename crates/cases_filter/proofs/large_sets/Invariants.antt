@@ -1,9 +1,0 @@
--- `large_sets` is safe and ends.
-use Rattle.std.specs.Prelude.{◌-◌, ◌≤◌}
-use Rattle.cases_filter.proofs.large_sets.Given as goal
-
-abbrev pub invariant-loop-i : goal.invariant-loop-i
-invariant-loop-i l = l.i ≤ l.n
-
-abbrev pub decreases-loop-i : goal.decreases-loop-i
-decreases-loop-i l = l.n - l.i

@@ -1,7 +1,0 @@
--- `pattern_cases::decode_case` is safe and ends. Each part lent is no longer than the array it is
--- cut from.
-use Rattle.lists.proofs.Prelude.{length-take, arith}
-use Rattle.cases_patterns.proofs.pattern_cases.decode_case.Goals as goal
-
-pub slice_bounds-decoded_case-end-2 : goal.slice_bounds-decoded_case-end-2
-slice_bounds-decoded_case-end-2 c = simp length-take (omega arith)

@@ -1,9 +1,0 @@
--- `cases` is safe and ends.
-use Rattle.std.specs.Prelude.{◌-◌, ◌≤◌}
-use Rattle.cases_refused.proofs.cases.Given as goal
-
-abbrev pub invariant-loop-i : goal.invariant-loop-i
-invariant-loop-i l = l.initial.i ≤ l.i
-
-abbrev pub decreases-loop-i : goal.decreases-loop-i
-decreases-loop-i l = l.n - l.i

@@ -1,9 +1,0 @@
--- `gaps_apart` is safe and ends.
-use Rattle.std.specs.Prelude.{◌-◌, ◌≤◌}
-use Rattle.cases_stream.proofs.gaps_apart.Given as goal
-
-abbrev pub invariant-loop-i : goal.invariant-loop-i
-invariant-loop-i l = l.i ≤ l.n
-
-abbrev pub decreases-loop-i : goal.decreases-loop-i
-decreases-loop-i l = l.n - l.i

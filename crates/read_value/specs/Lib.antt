@@ -1,2 +1,0 @@
--- The root of the crate's definitions.
-pub mod Read

@@ -1,9 +1,0 @@
--- `found_first` meets its contract: what its calls tell, the first of it first.
-use Rattle.lists.proofs.Prelude.{◌∙◌, ap₂, refl}
-use Rattle.test_differences.specs.Difference.{first_of}
-use Rattle.test_differences.proofs.expect.found_first.Goals as goal
-
-pub returns : goal.returns
-returns c =
-    c.first-2.ensures
-    ∙ ap₂ first_of c.accepted.ensures (c.first.ensures ∙ ap₂ first_of c.expect-some.ensures refl)

@@ -1,9 +1,0 @@
--- `search` is safe and ends.
-use Rattle.lists.proofs.Prelude.{length-take, arith}
-use Rattle.test_filter.proofs.search.Goals as goal
-
-pub slice_bounds-filter_search-end-2 : goal.slice_bounds-filter_search-end-2
-slice_bounds-filter_search-end-2 c = simp length-take (omega arith)
-
-pub slice_bounds-filter_search-end-4 : goal.slice_bounds-filter_search-end-4
-slice_bounds-filter_search-end-4 c = simp length-take (omega arith)

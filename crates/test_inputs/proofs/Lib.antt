@@ -1,2 +1,0 @@
--- The root of the crate's laws.
-pub mod Alike

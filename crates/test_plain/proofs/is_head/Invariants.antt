@@ -1,9 +1,0 @@
--- `is_head` is safe and ends.
-use Rattle.std.specs.Prelude.{◌-◌, ◌≤◌}
-use Rattle.test_plain.proofs.is_head.Given as goal
-
-abbrev pub invariant-loop-j : goal.invariant-loop-j
-invariant-loop-j l = l.j ≤ l.k
-
-abbrev pub decreases-loop-j : goal.decreases-loop-j
-decreases-loop-j l = l.k - l.j
