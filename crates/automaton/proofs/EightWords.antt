@@ -1,12 +1,13 @@
 -- EIGHT WORDS SIDE BY SIDE, those of a row or of a record, stored and compared; and sixteen, those
 -- of a row and of a record.
-use Rattle.std.specs.Prelude.{◌≡◌, ◌&&◌, ◌∷◌, ◌++◌, ◌+◌, ◌≤◌}
+use Rattle.std.specs.Prelude.{◌≡◌, ◌&&◌, ◌∷◌, ◌++◌, ◌+◌, ◌≤◌, ◌<◌}
 use lib.Pointwise.{pointwise}
-use Rattle.lists.proofs.Prelude.{◌∙◌, ap, sym, refl, ap₂, Bool, eqb, List, [], ℕ, length, take, drop}
+use Rattle.lists.proofs.Prelude.{◌∙◌, ap, sym, refl, ap₂, Bool, true, false, eqb, List, [], ℕ, length, get_or, take, drop}
 use Rattle.lists.proofs.Prelude.{length-drop}
-use Rattle.lists.proofs.Prelude.{length-append, length-take-le, take-add, take_at, drop-drop, drop-append-add}
+use Rattle.lists.proofs.Prelude.{length-append, length-take-le, get_or-take, get_or-drop, ext_get_or, take-add, take_at, drop-drop, drop-append-add}
 use Rattle.lists.proofs.Prelude.{append_assoc, arith, same}
-use Rattle.lists.proofs.Same.{same-append}
+use Rattle.lists.proofs.Prelude.{dec_lt}
+use Rattle.lists.proofs.Same.{same-true, same-false, same-append}
 
 -- ---- stores
 
@@ -24,8 +25,32 @@ store_both xs row rec at e h =
     ap₂ (λ (u z : List ℕ). u ++ rec ++ z) (take_at f (drop (at + 8) xs) (at + 8) l) y
     ∙ ap (λ (u : List ℕ). u ++ drop (at + 16) xs) (append_assoc (take at xs) row rec)
 
--- ---- eight words compared
+-- ---- eight elements side by side
 
+module _ (xs ys : List ℕ) (at : ℕ) where
+  pub eight_same : at + 8 ≤ length xs → length ys ≡ 8 → ((i : ℕ) → i < 8 → get_or xs (at + i) 0 ≡ get_or ys i 0) → same (take 8 (drop at xs)) ys ≡ true
+  eight_same l e f =
+      let m : length (take 8 (drop at xs)) ≡ 8 = length-take-le 8 (drop at xs) (rw length-drop (omega arith)) in
+      same-true (take 8 (drop at xs)) ys
+      (ext_get_or 0 (take 8 (drop at xs)) ys (m ∙ sym e) (λ i h. get_or-take 8 (drop at xs) i 0 (omega arith) ∙ get_or-drop at xs i 0 ∙ f i (omega arith)))
+
+  pub eight_differ : (i : ℕ) → i < 8 → (get_or xs (at + i) 0 ≡ get_or ys i 0 → ⊥) → same (take 8 (drop at xs)) ys ≡ false
+  eight_differ i h f =
+      same-false (take 8 (drop at xs)) ys (λ e. f (sym (get_or-take 8 (drop at xs) i 0 h ∙ get_or-drop at xs i 0) ∙ ap (λ (l : List ℕ). get_or l i 0) e))
+
+-- the first i words are the same
+abbrev pub Alike : List ℕ → List ℕ → ℕ → ℕ → Type 0
+Alike xs ys at i = (a : ℕ) → a < i → get_or xs (at + a) 0 ≡ get_or ys a 0
+
+-- one more
+pub Alike-more : (xs ys : List ℕ) (at i : ℕ) → Alike xs ys at i → get_or xs (at + i) 0 ≡ get_or ys i 0 → Alike xs ys at (i + 1)
+Alike-more xs ys at i f h a l = go (dec_lt a i)
+  where
+    go : Dec (a < i) → get_or xs (at + a) 0 ≡ get_or ys a 0
+    go (yes d) = f a d
+    go (no d) = let q : a ≡ i = omega arith in ap (λ (j : ℕ). get_or xs (at + j) 0) q ∙ h ∙ ap (λ (j : ℕ). get_or ys j 0) (sym q)
+
+-- element by element, as `==` on slices says it
 pub compared : (xs ys : List ℕ) → pointwise eqb xs ys ≡ same xs ys
 unfolding same
 compared [] [] = refl

@@ -31,12 +31,18 @@ pub(crate) fn is_front(set: &[u32], k: usize, words: &[u32]) -> bool
     words[2 * k] as usize == automaton_order::count_nodes(&patterns, words)
 }
 
-// Whether eight words stand from `at` on.
+// Whether eight words stand from `at` on. Word by word: `==` on slices is a call for each node, and
+// takes what is wanted from memory.
 fn is_eight(words: &[u32], at: usize, wanted: &[u32; 8]) -> bool
     requires { at + 8 ≤ length words.now }
     ensures { result ≡ same (take 8 (drop at words.now)) wanted.now }
 {
-    words[at..at + 8] == wanted[..]
+    for i in 0..8 {
+        if words[at + i] != wanted[i] {
+            return false;
+        }
+    }
+    true
 }
 
 // Whether the words of a record stand from `at` on.

@@ -55,10 +55,11 @@ pub fn root_record(set: &[u32]) -> Record
 
 // The place behind the last pattern that begins with the node's head: the patterns share its
 // distances one after the other.
-fn interval_end(node: &NextNode) -> usize
+fn interval_end(node: &NextNode, place: usize) -> usize
+    requires place_value { place ≡ place_of (patterns node.now.records) node.now.records.made }
     ensures { result ≡ end_of (patterns node.now.records) node.now.records.made }
 {
-    for i in node.place + 1..node.records.k {
+    for i in place + 1..node.records.k {
         if node.records.shared_at(i) < node.depth {
             return i;
         }
@@ -67,26 +68,28 @@ fn interval_end(node: &NextNode) -> usize
 }
 
 // How many patterns end at the node: those of its places that have no more distances come first.
-fn count_ends(node: &NextNode, end: usize) -> usize
+fn count_ends(node: &NextNode, place: usize, end: usize) -> usize
+    requires place_value { place ≡ place_of (patterns node.now.records) node.now.records.made }
     requires end_value { end ≡ end_of (patterns node.now.records) node.now.records.made }
     ensures { result ≡ ends_at (patterns node.now.records) (head_of (patterns node.now.records) node.now.records.made) }
 {
-    for i in node.place..end {
+    for i in place..end {
         let pattern = node.records.pattern_at(i);
         if pattern.len() != node.depth {
-            return i - node.place;
+            return i - place;
         }
     }
-    end - node.place
+    end - place
 }
 
 // The label of the node: the last of its head's distances, in the pattern at its first place.
-fn label_of(node: &NextNode) -> u32
+fn label_of(node: &NextNode, place: usize) -> u32
+    requires place_value { place ≡ place_of (patterns node.now.records) node.now.records.made }
     ensures { result
         ≡ get_or (head_of (patterns node.now.records) node.now.records.made)
         (length (head_of (patterns node.now.records) node.now.records.made) - 1) 0 }
 {
-    let pattern = node.records.pattern_at(node.place);
+    let pattern = node.records.pattern_at(place);
     pattern[node.depth - 1]
 }
 
@@ -143,12 +146,11 @@ pub fn make_record(records: &Records, parent: usize, place: usize, row: &mut [u3
     let node = NextNode {
         records: *records,
         depth,
-        place,
     };
-    let label = label_of(&node);
+    let label = label_of(&node, place);
     let link = failure_of(records, parent, label);
-    let end = interval_end(&node);
-    let ends = count_ends(&node, end);
+    let end = interval_end(&node, place);
+    let ends = count_ends(&node, place, end);
     let output = output_of(&node, link, ends);
     let first = children_end(records, records.made - 1);
     let count = automaton_rows::make_row(&node, link, first, place + ends, end, row);

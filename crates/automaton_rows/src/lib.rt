@@ -20,11 +20,8 @@ pub struct NextNode<'a> {
     pub records: Records<'a>,
     /// The number of distances of its head.
     pub depth: usize,
-    /// The place of the order where the patterns that begin with its head begin.
-    pub place: usize,
     pub ghost number: { (0 < records.made) × (records.made < length (nodes (patterns_of records.set.now))) },
     pub ghost deep: { depth ≡ length (head_of (patterns_of records.set.now) records.made) },
-    pub ghost placed: { place ≡ place_of (patterns_of records.set.now) records.made },
 }
 
 // The row of the failure link, with one attempt more.

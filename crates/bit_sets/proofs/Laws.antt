@@ -2,14 +2,14 @@
 -- such sets for callers.
 use Rattle.std.specs.Prelude.{◌%◌, ◌&&◌, ◌*◌, ◌-◌, ◌/◌, ◌<◌, ◌^◌, ◌||◌, ◌↔◌, ◌∷◌, ◌≡◌, ◌≤◌, ◌⊎◌}
 use lib.Bits.{bit_and, bit_or, bit_xor, and_le_r, and_mask}
-use lib.Count.{ones, count_trailing_zeros}
-use Rattle.lists.proofs.Prelude.{Bool, List, Memᴰ, Memᴰ-cases_cons, Memᴰ-head, T, []}
-use Rattle.lists.proofs.Prelude.{◌∙◌, ap, arith, cond, dec_lt, drop, eqb, false, inl, inr, le-ltb}
-use Rattle.lists.proofs.Prelude.{length, lt-ltb, ltb, not, pow-lt, refl, select, subst, suc, sym, tabulate, true, zero, ℕ}
+use lib.Count.{ones, ones-le, count_trailing_zeros}
+use Rattle.lists.proofs.Prelude.{Bool, List, Memᴰ, Memᴰ-cases_cons, Memᴰ-head, Memᴰ-tail, T, []}
+use Rattle.lists.proofs.Prelude.{◌∙◌, ap, arith, cond, dec_lt, drop, eq-eqb, eqb, false, inl, inr, le-ltb, le_of_eq}
+use Rattle.lists.proofs.Prelude.{le_trans, length, lt-ltb, ltb, ne_eqb, not, pow-lt, refl, select, subst, suc, sym, tabulate, true, zero, ℕ}
 use Rattle.lists.proofs.Members.{mem_below}
 use Rattle.lists.proofs.Select.{mem-select, select_snoc_not}
 use Rattle.lists.proofs.SelectTable.{select_below_ext}
-use Rattle.lists.proofs.Tests.{or_comm, true-T, clash}
+use Rattle.lists.proofs.Tests.{or_comm, and_split, and_join, test_ext, true-T, clash}
 use Rattle.lists.proofs.Rising.{Rising, Rising-select, Rising-below}
 use Rattle.bit_sets.specs.BitSets.{bit_at, bits}
 use Rattle.bit_sets.proofs.Digits.{bits_below, bit_at_and, bit_at-or, bit_at_xor, bit_at-pow, bits_below_empty, length-bits_below, first_bits_below}
@@ -42,6 +42,9 @@ without_is a b j = bit_at_xor a (bit_and a b) j ∙ ap (λ (c : Bool). cond (bit
 pub size_is : (m : ℕ) → m < 2 ^ 64 → ones m ≡ length (bits m)
 unfolding bits bits_below
 size_is m h = sym (length-bits_below 64 m h)
+
+pub size_le : (m : ℕ) → m < 2 ^ 64 → length (bits m) ≤ 64
+size_le m h = le_trans (le_of_eq (sym (size_is m h))) (ones-le 64 m h)
 
 pub lowest_is : (m : ℕ) → 0 < m → m < 2 ^ 64 → (count_trailing_zeros 64 m < 64) × (bits m ≡ count_trailing_zeros 64 m ∷ drop 1 (bits m))
 unfolding bits bits_below
@@ -124,3 +127,27 @@ lowest_le m r j e h t = go (Memᴰ-cases_cons (subst (λ (l : List ℕ). Memᴰ 
     go : (j ≡ r) ⊎ Memᴰ j (drop 1 (bits m)) → r ≤ j
     go (inl q) = omega arith
     go (inr d) = let l = (subst (λ (l : List ℕ). Rising (λ i j. i < j) l) e (bits_rise m)).0 j d in omega arith
+
+-- without its lowest member a set has the others
+pub lowest_out : (m n r j : ℕ) → bits m ≡ r ∷ drop 1 (bits m) → bits n ≡ drop 1 (bits m) → j < 64 → bit_at n j ≡ (not (eqb j r) && bit_at m j)
+lowest_out m n r j e f h = test_ext (bit_at n j) (not (eqb j r) && bit_at m j) from to
+  where
+    above : Memᴰ j (drop 1 (bits m)) → r < j
+    above d = (subst (λ (l : List ℕ). Rising (λ i j. i < j) l) e (bits_rise m)).0 j d
+
+    from : T (bit_at n j) → T (not (eqb j r) && bit_at m j)
+    from t =
+        let d : Memᴰ j (drop 1 (bits m)) = subst (λ (l : List ℕ). Memᴰ j l) f ((mem-bits n j).1 (h, t)) in
+        let l = above d in
+        and_join (not (eqb j r)) (bit_at m j) (rw (ne_eqb j r (λ q. let z : ⊥ = omega arith in z)) tt)
+        ((mem-bits m j).0 (subst (λ (l : List ℕ). Memᴰ j l) (sym e) (Memᴰ-tail d))).1
+
+    to : T (not (eqb j r) && bit_at m j) → T (bit_at n j)
+    to t =
+        let s = and_split (not (eqb j r)) (bit_at m j) t in
+        let d = Memᴰ-cases_cons (subst (λ (l : List ℕ). Memᴰ j l) e ((mem-bits m j).1 (h, s.1))) in
+        ((mem-bits n j).0 (subst (λ (l : List ℕ). Memᴰ j l) (sym f) (rest s.0 d))).1
+      where
+        rest : T (not (eqb j r)) → (j ≡ r) ⊎ Memᴰ j (drop 1 (bits m)) → Memᴰ j (drop 1 (bits m))
+        rest u (inl q) = absurd (subst (λ (b : Bool). T (not b)) (eq-eqb j r q) u)
+        rest u (inr d) = d

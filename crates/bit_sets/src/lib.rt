@@ -75,7 +75,7 @@ pub fn without_lowest(m: u64) -> u64
 }
 
 // The numbers in a set, lowest first.
-#[derive(Drop)]
+#[derive(Clone, Copy)]
 pub struct Members(pub u64);
 
 impl Iterator for Members {

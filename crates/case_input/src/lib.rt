@@ -2,14 +2,16 @@
 // the way from case to case. All numbers are decimal.
 #![tactic(auto)]
 
-ghost use Rattle.std.specs.Prelude.{◌≡◌, ◌≤◌};
+ghost use Rattle.lists.specs.Prelude.{eqb, length};
+ghost use Rattle.std.specs.Prelude.{if◌then◌else◌, ◌≡◌, ◌-◌, ◌≤◌, ◌<◌, IfSome};
+ghost use Rattle.test_tally.specs.Tally.{no_cases, counted, IsCounted};
 
 use test_differences::difference;
 use test_differences::difference::{Difference, Number, Part};
 use test_tally::{Cases, Tally};
 
 // So many cases are run at the most.
-const MOST: u64 = 100000;
+const MOST: usize = 100000;
 
 // The refusal and the count that are expected; where none is refused, the refusal is 0.
 #[derive(Clone, Copy)]
@@ -20,7 +22,9 @@ pub struct Expected {
 
 impl Expected {
     // The answer, or else the number of the refusal.
-    pub fn answer<T: Copy>(self, x: T) -> Result<T, u64> {
+    pub fn answer<T: Copy>(self, x: T) -> Result<T, u64>
+        ensures { result ≡ (if eqb self.refusal 0 then Ok x else Err self.refusal) }
+    {
         if self.refusal == 0 {
             Ok(x)
         } else {
@@ -31,7 +35,7 @@ impl Expected {
 
 // An input that is read forward from a place; the line that the last case began on, and the place
 // up to which lines were counted.
-#[derive(Drop)]
+#[derive(Clone, Copy)]
 pub struct Input<'a> {
     bytes: &'a [u8],
     pub at: usize,
@@ -75,7 +79,9 @@ fn below_zero(size: u64) -> i32 {
 }
 
 // The digit that a byte stands for, if it is one.
-fn digit(b: u8) -> Option<u64> {
+fn digit(b: u8) -> Option<u64>
+    ensures { IfSome result (λ d. d < 10) }
+{
     if b < 48 || b > 57 {
         return None;
     }
@@ -175,11 +181,14 @@ impl<'a> Input<'a> {
     }
 
     // So many bytes behind the next one, as far as there are; the place goes behind them all.
-    pub fn bytes_behind(&mut self, n: usize) -> &'a [u8] {
+    pub fn bytes_behind(&mut self, n: usize) -> &'a [u8]
+        ensures forward { self.old.at ≤ self.new.at }
+        ensures most { length result.now ≤ n }
+    {
         let bytes = self.bytes;
         let from = self.at.wrapping_add(1).min(bytes.len());
         let end = from + n.min(bytes.len() - from);
-        self.at = end;
+        self.at = self.at.max(end);
         &bytes[from..end]
     }
 
@@ -234,7 +243,8 @@ impl<'a> Input<'a> {
     // Goes on to the next case, and counts the lines up to it; its first number, unless that is 0,
     // as at the end of the input.
     pub fn next_case(&mut self) -> Option<u64>
-        ensures { self.old.at ≤ self.new.at }
+        ensures forward { self.old.at ≤ self.new.at }
+        ensures some { IfSome result (λ n. 0 < n) }
     {
         self.skip();
         let lines = line_ends(self.bytes, self.counted, self.at);
@@ -245,8 +255,68 @@ impl<'a> Input<'a> {
     }
 }
 
+// ---- from case to case
+
+// A case of an input that is reached: its first number, how many cases may be run from it on, and
+// what was counted before it. At the end of the input none may be run.
+#[derive(Clone, Copy)]
+pub struct Reached<'a, 'b> {
+    pub input: Input<'a>,
+    pub cases: Cases<'b>,
+    // No Option: it is the number that the input has there, and 0 at its end.
+    pub first: u64,
+    pub left: usize,
+}
+
+impl<'a, 'b> Reached<'a, 'b> {
+    // The first case of an input; at most 100,000 are run.
+    pub fn first_case(rt: &'b HostRuntime, bytes: &'a [u8]) -> Self
+        ensures left { result.left ≡ (if eqb result.first 0 then 0 else 100000) }
+        ensures none { result.cases.tally ≡ no_cases }
+    {
+        let mut reached = Reached {
+            input: Input::new(bytes),
+            cases: Cases::new(rt),
+            first: 0,
+            left: 0,
+        };
+        reached.reach(MOST);
+        reached
+    }
+
+    // Goes on to the case that the input has next, where so many may be run.
+    fn reach(&mut self, left: usize)
+        ensures forward { self.old.input.at ≤ self.new.input.at }
+        ensures left { self.new.left ≡ (if eqb self.new.first 0 then 0 else left) }
+        ensures same { self.new.cases.tally ≡ self.old.cases.tally }
+    {
+        match self.input.next_case() {
+            Some(first) => {
+                self.first = first;
+                self.left = left;
+            },
+            None => {
+                self.first = 0;
+                self.left = 0;
+            },
+        }
+    }
+
+    // Counts the case, in which this differs, or nothing, and goes on to the one behind it.
+    pub fn next_case(&mut self, d: Option<Difference>)
+        requires { 0 < self.old.left }
+        ensures forward { self.old.input.at ≤ self.new.input.at }
+        ensures left { self.new.left ≡ (if eqb self.new.first 0 then 0 else self.old.left - 1) }
+        ensures fewer { self.new.left < self.old.left }
+        ensures counted { self.new.cases.tally ≡ counted self.old.cases.tally d }
+    {
+        self.cases.lined(self.input.line, d);
+        self.reach(self.left - 1);
+    }
+}
+
 // Runs the cases of an input, each by its first number and what is behind that; returns what was
-// counted.
+// counted, which is what the calls told.
 pub fn run<F: Fn(&mut Input<'_>, u64) -> Option<Difference>>(
     rt: &HostRuntime,
     bytes: &[u8],
@@ -255,15 +325,14 @@ pub fn run<F: Fn(&mut Input<'_>, u64) -> Option<Difference>>(
     requires { F.IsAlwaysCallable case }
     ensures most { result.cases ≤ 100000 }
     ensures failed { result.failed ≤ result.cases }
+    ensures counted { IsCounted (λ i d. (from : _) × (first : _) × (behind : _) × F.post case from first d behind)
+        no_cases result.cases result }
 {
-    let mut input = Input::new(bytes);
-    let mut cases = Cases::new(rt);
-    while cases.tally.cases < MOST {
-        let Some(first) = input.next_case() else {
-            break;
-        };
-        let d = case(&mut input, first);
-        cases.lined(input.line, d);
+    let mut reached = Reached::first_case(rt, bytes);
+    while reached.left > 0 {
+        let first = reached.first;
+        let d = case(&mut reached.input, first);
+        reached.next_case(d);
     }
-    cases.tally
+    reached.cases.tally
 }

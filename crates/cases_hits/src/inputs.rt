@@ -14,7 +14,17 @@ fn put(out: &mut [u8], to: usize, bytes: &[u8]) -> usize
     end
 }
 
-// Puts the piece that starts at the place of the input.
+// Puts so many bytes 0 to a place of an array, as far as it reaches; returns the place behind them.
+fn put_zeros(out: &mut [u8], to: usize, n: usize) -> usize
+    requires { to ≤ length out.old }
+    ensures { result ≤ length out.new }
+{
+    let end = to + n.min(out.len() - to);
+    out[to..end].fill(0);
+    end
+}
+
+// Puts the piece that starts at the place of the input; bytes that the input lacks are 0.
 fn put_piece(input: &mut Input<'_>, out: &mut [u8], to: usize) -> usize
     requires { to ≤ length out.old }
     ensures { result ≤ length out.new }
@@ -29,6 +39,7 @@ fn put_piece(input: &mut Input<'_>, out: &mut [u8], to: usize) -> usize
     let mut end = to;
     for _ in 0..count {
         end = put(out, end, bytes);
+        end = put_zeros(out, end, n - bytes.len());
     }
     end
 }

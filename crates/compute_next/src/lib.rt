@@ -3,7 +3,7 @@
 #![tactic(auto)]
 
 ghost use Rattle.std.specs.Prelude.{◌≡◌, ◌++◌, ◌≤◌, ◌<◌, IfSome};
-ghost use Rattle.lists.specs.Prelude.{true, length, get_or, drop};
+ghost use Rattle.lists.specs.Prelude.{true, length, get_or, take, drop};
 ghost use Rattle.realization.specs.Realization.{realizable};
 ghost use Rattle.compute_realization.specs.OpenDistances.{open_distances};
 ghost use Rattle.catalogue.specs.Catalogue.{next_list};
@@ -52,13 +52,24 @@ pub fn next_change(ds: &[u32]) -> Option<Change>
     None
 }
 
+// Copies the first n words. By a loop: `copy_from_slice` is a call of the C library's `memmove`
+// here, and the archive for C needs nothing of it but `memcpy` and `memset`.
+fn copy_front(ds: &[u32], n: usize, out: &mut [u32])
+    requires { (n ≤ length ds.now) × (n ≤ length out.old) }
+    ensures { out.new ≡ take n ds.now ++ drop n out.old }
+{
+    for i in 0..n {
+        out[i] = ds[i];
+    }
+}
+
 // Writes the list that a change makes.
 pub fn write_replaced(ds: &[u32], change: Change, out: &mut [u32])
     requires { (change.place < length ds.now) × (length ds.now ≤ length out.old) }
     ensures { out.new ≡ replaced ds.now change.place change.distance ++ drop (length ds.now) out.old }
 {
     let place = change.place;
-    out[..place].copy_from_slice(&ds[..place]);
+    copy_front(ds, place, out);
     out[place] = change.distance;
     out[place + 1..ds.len()].fill(0);
 }

@@ -1,8 +1,8 @@
 -- One place more: what place j tells changes the parents that the places below j tell into those
 -- that the places up to j tell, and the parents that all places tell are the global parents.
-use Rattle.std.specs.Prelude.{◌≡◌, ◌&&◌, ◌++◌, ◌+◌, ◌-◌, ◌<◌}
+use Rattle.std.specs.Prelude.{◌≡◌, ◌&&◌, ◌++◌, ◌+◌, ◌-◌, ◌≤◌, ◌<◌}
 use Rattle.lists.proofs.Prelude.{◌∙◌, ap, sym, refl, true, false, Option, None, Some, List, ℕ, zero, suc, eqb, ltb}
-use Rattle.lists.proofs.Prelude.{ltb→lt, length, get_or, drop, set, set-append_left, add-one, arith, eq-eqb, ne_eqb}
+use Rattle.lists.proofs.Prelude.{ltb→lt, length, get_or, drop, set, length-append, length-drop, set-append_left, add-one, arith, eq-eqb, ne_eqb}
 use Rattle.lists.proofs.Prelude.{lt-ltb, tabulate}
 use Rattle.lists.proofs.Prelude.{last_below}
 use Rattle.lists.proofs.Tests.{and_split, and-false}
@@ -61,6 +61,9 @@ parents_below ds j d = tabulate j (parent_below ds j) ++ drop j d
 pub parents_none : (ds d : List ℕ) → d ≡ parents_below ds 0 d
 unfolding tabulate
 parents_none ds d = refl
+
+pub length-parents_below : (ds : List ℕ) (j : ℕ) (d : List ℕ) → j ≤ length d → length (parents_below ds j d) ≡ length d
+length-parents_below ds j d h = simp (length-append, length-tabulate, length-drop) (omega arith)
 
 pub place_more : (ds : List ℕ) (j : ℕ) (d : List ℕ) → realizable ds ≡ true → j < length ds → j < length d
     → with_place ds j (parents_below ds j d) ≡ parents_below ds (j + 1) d

@@ -2,16 +2,16 @@
 -- the part, so the first place that leads out of it is its root.
 use Rattle.std.specs.Prelude.{◌≡◌, ◌⊎◌, ◌||◌, ◌+◌, ◌-◌, ◌≤◌, ◌<◌}
 use Rattle.lists.proofs.Prelude.{◌∙◌, ap, sym, refl, subst, inl, inr, Bool, true, false, None, Some, same_Some, none-some}
-use Rattle.lists.proofs.Prelude.{List, ℕ, suc, T, eqb, ltb, length, get_or, add-one, dec_lt, arith, eq-eqb, ne_eqb, lt-ltb, le-ltb}
+use Rattle.lists.proofs.Prelude.{List, ℕ, zero, suc, T, eqb, ltb, length, get_or, add-one, dec_lt, arith, eq-eqb, ne_eqb, lt-ltb, le-ltb}
 use Rattle.lists.proofs.Prelude.{ltb-false, last_below}
 use Rattle.lists.proofs.Tests.{T-true, not_zero}
-use Rattle.lists.proofs.LastBelow.{last_below_is, last_below_skip}
+use Rattle.lists.proofs.LastBelow.{last_below-le, last_below_is, last_below_skip}
 use Rattle.cartesian.specs.Cartesian.{Tree, size}
 use Rattle.cartesian.proofs.Structure.{tree_distances, length-tree_distances}
 use Rattle.realization.specs.Realization.{realizable}
 use Rattle.realization.proofs.Realizable.{realizable_tree}
 use Rattle.global_parents.proofs.Prefix.{tree_of-take, last_prefix}
-use Rattle.compute_parents.specs.Steps.{left_start, is_root_from, prefix_child}
+use Rattle.compute_parents.specs.Steps.{after_link, left_start, is_root_from, prefix_child}
 use Rattle.compute_parents.proofs.Links.{distance, distance-le, nested}
 use Rattle.compute_parents.proofs.LeftPart.{RootOfPart, ChildOfPart, left_child}
 
@@ -41,9 +41,15 @@ leads_on ds b k e = no_root (get_or ds k 0) b k e
 
 -- ---- the ways through the walk
 
+pub walk_starts : (test : ℕ → Bool) (j : ℕ) → 0 < j → last_below test j ≡ last_below test (j - 1 + 1)
+walk_starts test j h = ap (last_below test) (omega arith)
+
 pub walk_ends : (test : ℕ → Bool) (k : ℕ) → test k ≡ true → k + 1 ≡ last_below test (k + 1)
 unfolding last_below
 walk_ends test k e = rw (add-one k, e) refl
+
+pub found_lt : (test : ℕ → Bool) (j k : ℕ) → k + 1 ≡ last_below test j → k < j
+found_lt test j k e = omega (arith, last_below-le test j)
 
 walk_tree : (t : Tree) (b k : ℕ) → k < size t → is_root_from (tree_distances t) b k ≡ false
     → last_below (is_root_from (tree_distances t) b) (k + 1) ≡ last_below (is_root_from (tree_distances t) b) (k - distance t k + 1)
@@ -90,6 +96,13 @@ walk_finds ds b j c p =
     (λ i l h t.
     let n = p.inner i l h in
     subst T (root_no (get_or ds i 0) b i n.0 n.1) t)
+
+pub start_le : (ds : List ℕ) (j : ℕ) → left_start ds j ≤ j
+start_le ds j = go (get_or ds j 0)
+  where
+    go : (d : ℕ) → after_link j d ≤ j
+    go zero = omega arith
+    go (suc d) = omega arith
 
 -- an empty left part has no child
 pub child_none : (ds : List ℕ) (j : ℕ) → realizable ds ≡ true → j < length ds → j ≤ left_start ds j → prefix_child ds j ≡ None

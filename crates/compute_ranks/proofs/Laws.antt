@@ -2,7 +2,7 @@
 -- list is in the sum and what is still to be ranked, and which distances of a code are written
 -- already.
 use Rattle.std.specs.Prelude.{◌≡◌, ◌∷◌, ◌++◌, ◌+◌, ◌*◌, ◌/◌, ◌%◌, ◌^◌, ◌≤◌, ◌<◌}
-use Rattle.lists.proofs.Prelude.{◌∙◌, ap, sym, subst, true, List, [], ℕ, zero, suc, T, length, get_or}
+use Rattle.lists.proofs.Prelude.{◌∙◌, ap, sym, refl, subst, true, List, [], ℕ, zero, suc, T, length, get_or}
 use Rattle.lists.proofs.Prelude.{drop, set, drop_of_length-le, drop-cons, mod-lt, mul-le-mul_right, add-one, dec_lt, arith}
 use Rattle.lists.proofs.Tables.{tabulate_more}
 use Rattle.realization.specs.Realization.{realizable}
@@ -58,6 +58,10 @@ unfolding rank_from
 rank_ends ds i sum h e = sym (e ∙ rw (drop_of_length-le ds {i = i} h) (omega arith))
 
 -- ---- unranking
+
+-- the digit, from the weight and the modulus that the code has
+pub digit_is : (code i f m : ℕ) → f ≡ factorial i → m ≡ suc i → code / f % m ≡ code / factorial i % suc i
+digit_is code i f m p q = rw (p, q) refl
 
 -- a distance of a code of at most 21 places fits 32 bits
 pub digit_fits : (code i v : ℕ) → i ≤ 20 → v ≡ code / factorial i % suc i → v < 2 ^ 32

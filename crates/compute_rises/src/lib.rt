@@ -3,7 +3,7 @@
 #![tactic(auto)]
 
 ghost use Rattle.std.specs.Prelude.{◌≡◌, ◌+◌, ◌*◌, ◌≤◌, ◌<◌, ◌-ℤ◌};
-ghost use Rattle.lists.specs.Prelude.{suc, ltb, pos, length, get_or};
+ghost use Rattle.lists.specs.Prelude.{suc, ltb, pos, length, get_or, replicate};
 ghost use Rattle.matching.specs.Rise.{clamp, rise_over};
 
 // The values that a call of a search reads: those it is handed, the first of them at place `start`,
@@ -55,6 +55,16 @@ pub fn rise_in(text: &[i32], last: usize, n: usize) -> i32
     ensures { result ≡ rise_over (λ p. get_or text.now p (pos 0)) last n }
 {
     difference(text[last], text[last + 1 - n])
+}
+
+// Puts one rise to every place. By a loop, whose stores the compiler puts together: `fill` makes
+// one for each place.
+pub fn fill_rises(rises: &mut [i32], rise: i32)
+    ensures { rises.new ≡ replicate (length rises.old) rise }
+{
+    for i in 0..rises.len() {
+        rises[i] = rise;
+    }
 }
 
 // Whether a second array is too short for a hit array, of so many words each: it has less than one

@@ -26,6 +26,7 @@ fn is_below(window: &[i32], g: usize, i: usize) -> bool
 // Whether the window passes the comparisons with parents to the left; stops at the first that it
 // does not pass.
 #[tactic(auto, using(crate::proofs::Passing::one_passes, crate::proofs::Passing::one_fails, crate::proofs::Passing::none_left))]
+#[inline(always)]
 fn passes_left(words: &[u32], window: &[i32]) -> bool
     requires { WordsArePlaces words.now (length window.now) }
     ensures { result ≡ all (passes_left window.now) words.now }
@@ -43,6 +44,7 @@ fn passes_left(words: &[u32], window: &[i32]) -> bool
 // does not pass.
 // Like passes_left but for its test; a test handed in as a closure leaves its call unproved.
 #[tactic(auto, using(crate::proofs::Passing::one_passes, crate::proofs::Passing::one_fails, crate::proofs::Passing::none_left))]
+#[inline(always)]
 fn passes_right(words: &[u32], window: &[i32]) -> bool
     requires { WordsArePlaces words.now (length window.now) }
     ensures { result ≡ all (passes_right window.now) words.now }
@@ -57,6 +59,7 @@ fn passes_right(words: &[u32], window: &[i32]) -> bool
 }
 
 // Whether a window that is as long as pattern j passes the comparisons that are left to its check.
+#[inline(always)]
 pub fn passes(set: &[u32], j: usize, words: &[u32], window: &[i32]) -> bool
     requires set { IsSet set.now }
     requires j_in_bounds { (j < length (patterns_of set.now)) × Comparisons (patterns_of set.now) words.now }

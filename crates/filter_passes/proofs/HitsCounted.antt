@@ -1,7 +1,7 @@
 -- HITS COUNTED PLACE BY PLACE: with the hits that are still to come, what has been counted is at
 -- least as many as there are, and exactly as many where no candidates were trusted.
 use Rattle.std.specs.Prelude.{◌≡◌, ◌+◌, ◌*◌, ◌≤◌, ◌<◌}
-use Rattle.lists.proofs.Prelude.{◌∙◌, ap, Bool, false, List, ℕ, ℤ, T, length, length-append, arith}
+use Rattle.lists.proofs.Prelude.{◌∙◌, ap, Bool, true, false, not, List, ℕ, ℤ, T, length, length-append, not-true, arith}
 use Rattle.pattern_set.specs.PatternSet.{PatternSet, good_set}
 use Rattle.matching.specs.Matching.{hits_at, hits}
 use Rattle.filter_passes.specs.Passes.{rest_hits, NoneFrom}
@@ -40,14 +40,26 @@ module _ (ps : PatternSet) (text : List ℤ) (p found : ℕ) (trusted : Bool) (b
         bound = omega (arith, before.bound, least.1);
       }
 
-  -- no place is left that has candidates
-  pub hits_counted : T (good_set ps) → p ≤ length text → NoneFrom ps text p (length text) → length text ≤ 1048576
-      → (length (hits ps text) ≤ found) × (trusted ≡ false → found ≡ length (hits ps text)) × (found ≤ 67108864)
-  hits_counted good h none small =
-      let end = rest_skip ps text p (length text) good h (omega arith) none ∙ hits_end ps text (length text) (length text) (omega arith) in
-      let left = ap length end in
-      let all = ap length (hits_all ps text) in (
-        omega (arith, before.at_least, left, all),
-        (λ e. omega (arith, before.exact e, left, all)),
-        omega (arith, before.bound, h, small),
-      )
+  -- behind the last place
+  module _ (end : length text ≤ p) where
+    none : length (rest_hits ps text p) ≡ 0
+    none = ap length (hits_end ps text p (length text) end)
+
+    all : length (rest_hits ps text 0) ≡ length (hits ps text)
+    all = ap length (hits_all ps text)
+
+    pub hits_counted_least : p ≤ 1048576 → (length (hits ps text) ≤ found) × (found ≤ 67108864)
+    hits_counted_least h = (omega (arith, before.at_least, none, all), omega (arith, before.bound, h))
+
+    pub hits_counted_exact : not trusted ≡ true → found ≡ length (hits ps text)
+    hits_counted_exact e = omega (arith, before.exact (not-true trusted e), none, all)
+
+-- no place is left that has candidates
+pub hits_counted : (ps : PatternSet) (text : List ℤ) (p found : ℕ) (trusted : Bool) → HitsCounted ps text p found trusted → T (good_set ps)
+    → p ≤ length text → NoneFrom ps text p (length text) → length text ≤ 1048576
+    → (length (hits ps text) ≤ found) × (trusted ≡ false → found ≡ length (hits ps text)) × (found ≤ 67108864)
+hits_counted ps text p found trusted before good h none small =
+    let n = length text in
+    let there = HitsCounted-skip ps text p found trusted before n good h (omega arith) none in
+    let least = hits_counted_least ps text n found trusted there (omega arith) small in
+    (least.0, (λ e. hits_counted_exact ps text n found trusted there (omega arith) (ap not e)), least.1)

@@ -3,7 +3,7 @@
 -- candidates. A place without candidates has no hit, and a gap has no candidates.
 use Rattle.std.specs.Prelude.{◌≡◌, ◌&&◌, ◌∷◌, ◌+◌, ◌-◌, ◌/◌, ◌%◌, ◌≤◌, ◌<◌}
 use Rattle.lists.proofs.Prelude.{◌∙◌, ap, sym, refl, subst, Bool, true, false, List, [], map, flatten, ℕ, suc, ℤ, pos, T}
-use Rattle.lists.proofs.Prelude.{ltb, length, get_or, take, drop, length-append, length-map, dec_lt, arith, lt-leb, lt-ltb, le-ltb}
+use Rattle.lists.proofs.Prelude.{ltb, length, get_or, take, drop, length-append, length-map, length-take-le, length-drop, dec_lt, arith, lt-leb, lt-ltb, le-ltb}
 use Rattle.lists.proofs.Prelude.{ltb-true, tabulate, select, drop-cons, drop_of_length-le, add-one}
 use Rattle.lists.proofs.Tests.{and-false, and_split, and_join, T-true, true-T}
 use Rattle.lists.proofs.Rows.{flatten-tabulate}
@@ -178,6 +178,12 @@ place_none p numbers i h = ap (place_hits p) (drop_of_length-le numbers {i = i} 
 pub place_ranks : (p : ℕ) (numbers ranks : List ℕ) → place_hits p (map (λ s. get_or numbers s 0) ranks) ≡ rank_hits numbers p ranks
 unfolding place_hits rank_hits
 place_ranks p numbers ranks = map-map (λ s. get_or numbers s 0) (λ j. (p, j)) ranks
+
+-- as many as there are ranks
+pub part_size : (grouped numbers ranks : List ℕ) (a n : ℕ) → a + n ≤ length grouped → take n (drop a grouped) ≡ map (λ s. get_or numbers s 0) ranks
+    → n ≡ length ranks
+part_size grouped numbers ranks a n h e =
+    sym (length-take-le n (drop a grouped) (omega (arith, length-drop a grouped))) ∙ ap length e ∙ length-map ranks (λ s. get_or numbers s 0)
 
 -- those of the ranks whose patterns equal that of rank r, from the table in which they lie side by
 -- side

@@ -32,6 +32,7 @@ pub struct Counted {
 // looked at, and all of them are counted.
 // `trusted` is one bit of the walk, which the loop turns on once; a closure for each case is no
 // plainer.
+#[inline(always)]
 fn look_at(tables: &Tables, text: &[i32], stop: Stop, marks: &mut Marks, trusted: bool) -> usize
     requires text_len_bound { (stop.at.place < length text.now) × (length text.now ≤ 1048576) }
     requires own { stop.at.own ≡ text_fingerprint 17 (take (suc stop.at.place) text.now) }
@@ -54,6 +55,7 @@ fn look_at(tables: &Tables, text: &[i32], stop: Stop, marks: &mut Marks, trusted
 // The candidates of the text, and its hits. Between two places that may have candidates nothing is
 // done but the look for the next. A pattern with a hit is a candidate, so the places between them
 // have no hit. Once 64 candidates or more were all hits, those of marked blocks are trusted.
+#[inline(always)]
 fn count_candidates(tables: &CandidateTables, text: &[i32], marks: &mut Marks) -> Counted
     requires text_len_bound { length text.now ≤ 1048576 }
     ensures candidates_value { result.candidates ≡ candidates (patterns tables.now.tables.now) text.now }
@@ -83,6 +85,7 @@ fn count_candidates(tables: &CandidateTables, text: &[i32], marks: &mut Marks) -
 }
 
 // The first pass: the candidates of the text, and its hits.
+#[inline(always)]
 pub fn first_pass(tables: &Tables, text: &[i32], marks: &mut Marks) -> Counted
     requires text_len_bound { length text.now ≤ 1048576 }
     ensures candidates_value { result.candidates ≡ candidates (patterns tables.now) text.now }

@@ -13,7 +13,7 @@ use crate::marks::Marks;
 use crate::place::write_place;
 use filter_windows::fingerprints::{fingerprint_before, own_next};
 use filter_windows::last_gap::{begin_before, begin_next};
-use filter_windows::tables::Tables;
+use filter_windows::tables::{ListTables, Tables};
 
 // How many hits a block has, and where the samples behind the last gap up to its end begin.
 #[derive(Clone, Copy)]
@@ -24,6 +24,7 @@ struct Listed {
 
 // How many hits the places from first to end have; begin is where the samples behind the last gap
 // before first begin.
+#[inline(always)]
 fn count_block(tables: &Tables, text: &[i32], first: usize, end: usize, begin: usize) -> Listed
     requires first_le_end { (first ≤ end) × (end ≤ length text.now) × (length text.now ≤ 1048576) × Since text.now first begin }
     ensures hits_value { result.hits ≡ length (hits_from (patterns tables.now) text.now first (end - first)) }
@@ -45,6 +46,7 @@ fn count_block(tables: &Tables, text: &[i32], first: usize, end: usize, begin: u
 
 // How many hits the text has. Where the samples behind the last gap begin is kept for the place
 // done, the one behind the last block that was looked at.
+#[inline(always)]
 pub fn count_hits(tables: &Tables, text: &[i32], marks: &Marks) -> usize
     requires text_len_bound { length text.now ≤ 1048576 }
     requires hits_marked { HitsMarked (patterns tables.now) text.now marks.now.words (length text.now) }
@@ -70,8 +72,9 @@ pub fn count_hits(tables: &Tables, text: &[i32], marks: &Marks) -> usize
 // Writes the hits of the places from first to end and the rises over them to the fronts of two
 // arrays; begin is where the samples behind the last gap before first begin.
 // Seven parameters: the block, as in `count_block`, and the parts of two arrays.
+#[inline(always)]
 fn write_block(
-    tables: &Tables,
+    tables: &ListTables,
     text: &[i32],
     first: usize,
     end: usize,
@@ -80,14 +83,14 @@ fn write_block(
     rises: &mut [i32],
 ) -> Listed
     requires first_le_end { (first ≤ end) × (end ≤ length text.now) × (length text.now ≤ 1048576) × Since text.now first begin }
-    requires first_in_bounds { 2 * length (hits_from (patterns tables.now) text.now first (end - first)) ≤ length out.old }
-    requires first_in_bounds_2 { length (hits_from (patterns tables.now) text.now first (end - first)) ≤ length rises.old }
-    ensures hits_value { result.hits ≡ length (hits_from (patterns tables.now) text.now first (end - first)) }
+    requires first_in_bounds { 2 * length (hits_from (patterns tables.now.tables) text.now first (end - first)) ≤ length out.old }
+    requires first_in_bounds_2 { length (hits_from (patterns tables.now.tables) text.now first (end - first)) ≤ length rises.old }
+    ensures hits_value { result.hits ≡ length (hits_from (patterns tables.now.tables) text.now first (end - first)) }
     ensures out_after { out.new ≡ sets out.old 0
-        (hit_words (hits_from (patterns tables.now) text.now first (end - first))) }
+        (hit_words (hits_from (patterns tables.now.tables) text.now first (end - first))) }
     ensures rises_after { rises.new ≡ sets rises.old 0
-        (map (rise_in (patterns tables.now) text.now)
-        (hits_from (patterns tables.now) text.now first (end - first))) }
+        (map (rise_in (patterns tables.now.tables) text.now)
+        (hits_from (patterns tables.now.tables) text.now first (end - first))) }
     ensures since { Since text.now end result.begin }
 {
     let mut own = fingerprint_before(text, first);
@@ -96,7 +99,7 @@ fn write_block(
     for p in first..end {
         own = own_next(text, p, own);
         since = begin_next(text, p, since);
-        let likely = tables.likely_at(text, p, own, since);
+        let likely = tables.tables.likely_at(text, p, own, since);
         to += write_place(
             tables,
             text,
@@ -115,21 +118,22 @@ fn write_block(
 // Writes the hits of the text and the rises over them to the fronts of two arrays, which are long
 // enough; tells how many they are. Where the samples behind the last gap begin is kept for the
 // place done, the one behind the last block that was looked at.
+#[inline(always)]
 pub fn write_hits(
-    tables: &Tables,
+    tables: &ListTables,
     text: &[i32],
     marks: &Marks,
     out: &mut [u32],
     rises: &mut [i32],
 ) -> usize
     requires text_len_bound { length text.now ≤ 1048576 }
-    requires hits_marked { HitsMarked (patterns tables.now) text.now marks.now.words (length text.now) }
-    requires text_in_bounds { 2 * length (hits (patterns tables.now) text.now) ≤ length out.old }
-    requires text_in_bounds_2 { length (hits (patterns tables.now) text.now) ≤ length rises.old }
-    ensures value { result ≡ length (hits (patterns tables.now) text.now) }
-    ensures out_after { out.new ≡ sets out.old 0 (hit_words (hits (patterns tables.now) text.now)) }
+    requires hits_marked { HitsMarked (patterns tables.now.tables) text.now marks.now.words (length text.now) }
+    requires text_in_bounds { 2 * length (hits (patterns tables.now.tables) text.now) ≤ length out.old }
+    requires text_in_bounds_2 { length (hits (patterns tables.now.tables) text.now) ≤ length rises.old }
+    ensures value { result ≡ length (hits (patterns tables.now.tables) text.now) }
+    ensures out_after { out.new ≡ sets out.old 0 (hit_words (hits (patterns tables.now.tables) text.now)) }
     ensures rises_after { rises.new ≡ sets rises.old 0
-        (map (rise_in (patterns tables.now) text.now) (hits (patterns tables.now) text.now)) }
+        (map (rise_in (patterns tables.now.tables) text.now) (hits (patterns tables.now.tables) text.now)) }
 {
     let mut to = 0;
     let mut begin = 0;

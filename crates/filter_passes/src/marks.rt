@@ -1,5 +1,6 @@
 // The marks: a bit for each block of 64 places.
 ghost use Rattle.std.specs.Prelude.{◌≡◌, ◌<◌};
+ghost use Rattle.lists.specs.Prelude.{replicate};
 ghost use Rattle.filter_passes.specs.Passes.{is_marked, MarkedIf};
 
 #[derive(Clone, Copy)]
@@ -9,7 +10,9 @@ pub struct Marks {
 
 impl Marks {
     // No block is marked.
-    pub fn new() -> Marks {
+    pub fn new() -> Marks
+        ensures { result.words ≡ replicate 256 0 }
+    {
         Marks { words: [0; 256] }
     }
 

@@ -12,9 +12,10 @@ ghost use Rattle.filter_windows.specs.Looks.{SetOf};
 ghost use Rattle.filter_windows.specs.Patterns.{patterns};
 ghost use Rattle.filter_passes.specs.Passes.{rank_hits, place_hits};
 
-use filter_windows::tables::Tables;
+use filter_windows::tables::ListTables;
 
 // Writes the hits of patterns at place p, by their numbers, and the rise over each.
+#[inline(always)]
 fn write_many(numbers: &[u32], p: u32, rise: i32, out: &mut [u32], rises: &mut [i32])
     requires { (2 * length numbers.now ≤ length out.old) × (length numbers.now ≤ length rises.old) }
     ensures out_after { out.new ≡ sets out.old 0 (hit_words (place_hits p numbers.now)) }
@@ -30,6 +31,7 @@ fn write_many(numbers: &[u32], p: u32, rise: i32, out: &mut [u32], rises: &mut [
 // Writes the hits of the patterns of a set of ranks at place p, and the rise over each; tells how
 // many they are.
 // Six parameters: what the hits are made of, and the parts of two arrays where they go.
+#[inline(always)]
 fn write_few(
     numbers: &[u32; 64],
     members: u64,
@@ -60,26 +62,28 @@ fn write_few(
 // tells how many they are. Eight or more are taken from the table in which their numbers lie side
 // by side.
 // Six parameters, of which two are the parts of two arrays where the hits go.
+#[inline(always)]
 fn write_group(
-    tables: &Tables,
+    tables: &ListTables,
     r: usize,
     p: u32,
     rise: i32,
     out: &mut [u32],
     rises: &mut [i32],
 ) -> usize
-    requires r_in_bounds { (r < length (patterns tables.now)) × (r < 64) }
-    requires room { (2 * length (bits (get_or tables.now.equal.now r 0)) ≤ length out.old)
-        × (length (bits (get_or tables.now.equal.now r 0)) ≤ length rises.old) }
-    ensures value { result ≡ length (bits (get_or tables.now.equal.now r 0)) }
+    requires r_in_bounds { (r < length (patterns tables.now.tables)) × (r < 64) }
+    requires room { (2 * length (bits (get_or tables.now.tables.windows.equal.now r 0)) ≤ length out.old)
+        × (length (bits (get_or tables.now.tables.windows.equal.now r 0)) ≤ length rises.old) }
+    ensures value { result ≡ length (bits (get_or tables.now.tables.windows.equal.now r 0)) }
     ensures out_after { out.new
-        ≡ sets out.old 0 (hit_words (rank_hits tables.now.numbers.now p (bits (get_or tables.now.equal.now r 0)))) }
+        ≡ sets out.old 0 (hit_words (rank_hits tables.now.tables.windows.numbers.now p (bits (get_or tables.now.tables.windows.equal.now r 0)))) }
     ensures rises_after { rises.new
-        ≡ sets rises.old 0 (map (λ _. rise) (rank_hits tables.now.numbers.now p (bits (get_or tables.now.equal.now r 0)))) }
+        ≡ sets rises.old 0 (map (λ _. rise) (rank_hits tables.now.tables.windows.numbers.now p (bits (get_or tables.now.tables.windows.equal.now r 0)))) }
 {
     let word = tables.words[r] as usize;
     if word < 512 {
-        return write_few(tables.numbers, tables.equal[r], p, rise, out, rises);
+        let windows = &tables.tables.windows;
+        return write_few(windows.numbers, windows.equal[r], p, rise, out, rises);
     }
     let first = word % 64;
     let end = first + word / 64;
@@ -91,8 +95,9 @@ fn write_group(
 // Writes the hits of place p, of which the likely patterns are known, and the rises over them;
 // tells how many they are.
 // Six parameters, of which two are the parts of two arrays where the hits go.
+#[inline(always)]
 pub(crate) fn write_place(
-    tables: &Tables,
+    tables: &ListTables,
     text: &[i32],
     p: usize,
     likely: u64,
@@ -100,17 +105,17 @@ pub(crate) fn write_place(
     rises: &mut [i32],
 ) -> usize
     requires p_in_bounds { (p < length text.now) × (length text.now ≤ 1048576) }
-    requires set_of { SetOf (patterns tables.now) (is_likely (take (suc p) text.now)) likely }
-    requires room { (2 * length (hits_at (patterns tables.now) text.now p) ≤ length out.old)
-        × (length (hits_at (patterns tables.now) text.now p) ≤ length rises.old) }
-    ensures value { result ≡ length (hits_at (patterns tables.now) text.now p) }
-    ensures out_after { out.new ≡ sets out.old 0 (hit_words (hits_at (patterns tables.now) text.now p)) }
+    requires set_of { SetOf (patterns tables.now.tables) (is_likely (take (suc p) text.now)) likely }
+    requires room { (2 * length (hits_at (patterns tables.now.tables) text.now p) ≤ length out.old)
+        × (length (hits_at (patterns tables.now.tables) text.now p) ≤ length rises.old) }
+    ensures value { result ≡ length (hits_at (patterns tables.now.tables) text.now p) }
+    ensures out_after { out.new ≡ sets out.old 0 (hit_words (hits_at (patterns tables.now.tables) text.now p)) }
     ensures rises_after { rises.new ≡ sets rises.old 0
-        (map (rise_in (patterns tables.now) text.now) (hits_at (patterns tables.now) text.now p)) }
+        (map (rise_in (patterns tables.now.tables) text.now) (hits_at (patterns tables.now.tables) text.now p)) }
 {
     let mut rest = likely;
     let mut to = 0;
-    while let Some(group) = tables.next_group(text, p, rest) {
+    while let Some(group) = tables.tables.windows.next_group(text, p, rest) {
         let group_rise = compute_rises::rise_in(text, p, group.length);
         to += write_group(
             tables,

@@ -48,6 +48,7 @@ struct Look {
 // From a place on past the samples whose set fingerprint no pattern has. The bits of the places are
 // shifted in, and the fingerprint is cut from them where the look ends. Those of the first place
 // are known, so a range of places would have to ask at each whether it is the first.
+#[inline(always)]
 fn next_look(tables: &CandidateTables, text: &[i32], from: Position) -> Option<Look>
     requires place_in_bounds { (from.place < length text.now) × Stands text.now from.place from.own from.begin }
     ensures { MatchOption result (NoneFrom (patterns tables.now.tables.now) text.now from.place (length text.now))
@@ -85,6 +86,7 @@ fn next_look(tables: &CandidateTables, text: &[i32], from: Position) -> Option<L
 
 // The next place whose set fingerprint some patterns have, with its candidates. At a gap no window
 // fits, so nothing is looked up.
+#[inline(always)]
 pub(crate) fn next_stop(tables: &CandidateTables, text: &[i32], from: Position) -> Option<Stop>
     requires stands { Stands text.now from.place from.own from.begin }
     ensures { MatchOption result (NoneFrom (patterns tables.now.tables.now) text.now from.place (length text.now))
@@ -115,6 +117,7 @@ pub(crate) fn next_stop(tables: &CandidateTables, text: &[i32], from: Position) 
 }
 
 // Behind a place with this fingerprint.
+#[inline(always)]
 pub(crate) fn behind(text: &[i32], place: usize, own: u32, begin: usize) -> Position
     requires place_in_bounds { (place < length text.now) × (own ≡ text_fingerprint 17 (take (suc place) text.now)) × Since text.now (suc place) begin }
     ensures place_value { result.place ≡ place + 1 }

@@ -8,6 +8,7 @@ ghost use Rattle.answers.specs.Told.{told_filtered};
 ghost use Rattle.pattern_set.specs.PatternSet.{patterns_of, IsSet, may_search};
 ghost use Rattle.matching.specs.Matching.{hits};
 ghost use Rattle.entries.specs.Entries.{told, after, filter_entry, filter_rises};
+ghost use Rattle.filter_windows.specs.Looks.{OwnTables};
 ghost use Rattle.filter_windows.specs.Patterns.{patterns};
 ghost use Rattle.filter_passes.specs.Passes.{HitsMarked};
 ghost use Rattle.filter_passes.specs.Counts.{CountsHits};
@@ -17,7 +18,7 @@ use answers::{Filtered, Refusal};
 use filter_passes::counting::HitCount;
 use filter_passes::marks::Marks;
 use filter_passes::{counting, listing, single};
-use filter_windows::tables::Tables;
+use filter_windows::tables::{ListTables, Tables, WindowTables};
 
 // Whether the list of hits fits into an array of room words. It does where even as many as the
 // first pass has counted would. If that count is exact, it does nowhere else; if not, the hits are
@@ -41,20 +42,21 @@ fn list_fits(tables: &Tables, text: &[i32], marks: &Marks, count: HitCount, room
 
 // Two passes, for any array: one counts the candidates and the hits and marks the blocks that have
 // hits, one lists the hits and the rises over them if the list fits.
+#[inline(always)]
 fn two_passes(
-    tables: &Tables,
+    tables: &ListTables,
     text: &[i32],
     out: &mut [u32],
     rises: &mut [i32],
 ) -> Result<Filtered, Refusal>
     requires text_len_bound { (length text.now ≤ 1048576) × (length out.old ≤ 2 * length rises.old) }
-    ensures result_value { told_filtered result ≡ told (0, 0) (found_entry (patterns tables.now) text.now out.old) }
-    ensures out_after { out.new ≡ after (found_entry (patterns tables.now) text.now out.old) out.old }
-    ensures rises_after { rises.new ≡ after (found_rises (patterns tables.now) text.now out.old) rises.old }
+    ensures result_value { told_filtered result ≡ told (0, 0) (found_entry (patterns tables.now.tables) text.now out.old) }
+    ensures out_after { out.new ≡ after (found_entry (patterns tables.now.tables) text.now out.old) out.old }
+    ensures rises_after { rises.new ≡ after (found_rises (patterns tables.now.tables) text.now out.old) rises.old }
 {
     let mut marks = Marks::new();
-    let counted = counting::first_pass(tables, text, &mut marks);
-    if !list_fits(tables, text, &marks, counted.hits, out.len()) {
+    let counted = counting::first_pass(&tables.tables, text, &mut marks);
+    if !list_fits(&tables.tables, text, &marks, counted.hits, out.len()) {
         return Err(Refusal::ListTooLong);
     }
     let found = listing::write_hits(tables, text, &marks, out, rises);
@@ -65,30 +67,52 @@ fn two_passes(
 }
 
 // Whether an array of room words has two for every pattern at every place of a text of n values.
-fn takes_all(tables: &Tables, n: usize, room: usize) -> bool
+fn takes_all(tables: &ListTables, n: usize, room: usize) -> bool
     requires n_bound { n ≤ 1048576 }
-    ensures { result ≡ leb (2 * (n * length (patterns tables.now))) room }
+    ensures { result ≡ leb (2 * (n * length (patterns tables.now.tables))) room }
 {
-    let k = set_access::pattern_count(tables.set);
+    let k = set_access::pattern_count(tables.tables.windows.set);
     2 * (n * k) <= room
 }
 
 // The search by tables that are filled.
+#[inline(always)]
 fn search_by(
-    tables: &Tables,
+    tables: &ListTables,
     text: &[i32],
     out: &mut [u32],
     rises: &mut [i32],
 ) -> Result<Filtered, Refusal>
     requires text_len_bound { (length text.now ≤ 1048576) × (length out.old ≤ 2 * length rises.old) }
-    ensures result_value { told_filtered result ≡ told (0, 0) (found_entry (patterns tables.now) text.now out.old) }
-    ensures out_after { out.new ≡ after (found_entry (patterns tables.now) text.now out.old) out.old }
-    ensures rises_after { rises.new ≡ after (found_rises (patterns tables.now) text.now out.old) rises.old }
+    ensures result_value { told_filtered result ≡ told (0, 0) (found_entry (patterns tables.now.tables) text.now out.old) }
+    ensures out_after { out.new ≡ after (found_entry (patterns tables.now.tables) text.now out.old) out.old }
+    ensures rises_after { rises.new ≡ after (found_rises (patterns tables.now.tables) text.now out.old) rises.old }
 {
     if takes_all(tables, text.len(), out.len()) {
-        Ok(single::one_pass(tables, text, out, rises))
+        let counts = single::one_pass(tables, text, out, rises);
+        Ok(Filtered {
+            hits: counts.hits,
+            candidates: counts.candidates,
+        })
     } else {
         two_passes(tables, text, out, rises)
+    }
+}
+
+// The tables of windows, and with them those by the fingerprint of the last 17 values.
+#[inline(always)]
+fn with_own<'a>(
+    windows: WindowTables<'a>,
+    own_low: &'a [u64; 256],
+    own_high: &'a [u64; 256],
+) -> Tables<'a>
+    requires own { OwnTables (patterns_of windows.set.now) own_low.now own_high.now windows.fits.now }
+    ensures { result.windows ≡ windows.entry }
+{
+    Tables {
+        windows,
+        own_low,
+        own_high,
     }
 }
 
@@ -120,14 +144,15 @@ fn search(
     filter_checks::comparisons::fill_comparisons(set, &mut checks);
     filter_tables::fill_own_tables(set, &numbers, &mut own_low, &mut own_high);
     filter_tables::fill_fits(set, &numbers, &mut fits);
-    let tables = Tables {
+    let windows = WindowTables {
         set,
-        own_low: &own_low,
-        own_high: &own_high,
         fits: &fits,
         numbers: &numbers,
         equal: &equal,
         checks: &checks,
+    };
+    let tables = ListTables {
+        tables: with_own(windows, &own_low, &own_high),
         grouped: &grouped,
         words: &words,
     };

@@ -28,6 +28,14 @@ pub record Passed (ps : PatternSet) (text : List ℤ) (left rest : ℕ) : Type 0
   pub groups : LikelyGroups ps text rest
   pub le : rest ≤ left
 
+pub Passed-start : (ps : PatternSet) (text : List ℤ) (left : ℕ) → LikelyGroups ps text left → Passed ps text left left
+Passed-start ps text left g = record {
+  part = λ r h t. t;
+  none = λ r h t e. clash (true-T (bit_at left r) t) e;
+  groups = g;
+  le = omega arith;
+}
+
 pub Passed-end : (ps : PatternSet) (text : List ℤ) (left rest : ℕ) → Passed ps text left rest → rest ≡ 0 → NoneHit ps text left
 Passed-end ps text left rest s e r h t = s.none r h t (ap (λ (n : ℕ). bit_at n r) e ∙ bit_at_none r)
 

@@ -14,7 +14,7 @@ use Rattle.filter_plan.specs.Plan.{hit_order, text_fingerprint, pattern_fingerpr
 use Rattle.filter_plan.proofs.Fingerprints.{text_fingerprint_bytes}
 use Rattle.filter_plan.proofs.HitOrder.{good_number, hit_order-lt, length-hit_order}
 use Rattle.filter_plan.proofs.Checks.{shortest_bound, shortest_positive, shortest_own, likely_candidate}
-use Rattle.filter_tables.specs.Tables.{ranked, TableOf, own_low, own_high}
+use Rattle.filter_tables.specs.Tables.{ranked, TableOf, set_low, set_high, own_low, own_high, fits_at}
 use Rattle.filter_tables.proofs.Lookup.{own_tests, candidate_bit, own_bit}
 use Rattle.filter_windows.specs.Looks.{Since, Alike, is_within, Fitting, Looked, SetOf, SetTables, OwnTables}
 use Rattle.filter_windows.proofs.Samples.{samples_fit}
@@ -69,6 +69,15 @@ module _ (ps : PatternSet) (text : List ℤ) (p begin n : ℕ) (good : T (good_s
   Looked-likely own set k o looked r h =
       subst (λ (k : ℕ). Looked lowbyte highbyte fits k n set) o looked r h
       ∙ own_bit ps front good n (samples_fit text p begin n lt since n≡) lowbyte highbyte fits k.by_low k.by_high k.by_place r h
+
+-- the tables of a fingerprint of b values, where b is the length of the set fingerprint
+pub set-tables : (ps : PatternSet) (b : ℕ) (lowbyte highbyte fits : List ℕ) → b ≡ shortest 17 ps → TableOf ps (set_low b) lowbyte
+    → TableOf ps (set_high b) highbyte → TableOf ps fits_at fits → SetTables ps lowbyte highbyte fits
+set-tables ps b lowbyte highbyte fits e l h f = record {
+  by_low = subst (λ (m : ℕ). TableOf ps (set_low m) lowbyte) e l;
+  by_high = subst (λ (m : ℕ). TableOf ps (set_high m) highbyte) e h;
+  by_place = f;
+}
 
 -- THE LIKELY PATTERNS AMONG THE CANDIDATES: those that have the fingerprint of 17 values, as far as
 -- their own is of them

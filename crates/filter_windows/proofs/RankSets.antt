@@ -1,9 +1,9 @@
 -- SETS OF PATTERNS BY RANK: the likely patterns are checked group by group, and what is found are
 -- those with a hit.
-use Rattle.std.specs.Prelude.{◌≡◌, ◌&&◌, ◌<◌}
+use Rattle.std.specs.Prelude.{◌≡◌, ◌&&◌, ◌||◌, ◌<◌}
 use Rattle.lists.proofs.Prelude.{◌∙◌, ap, sym, refl, subst, Bool, true, false, not, List, ℕ, ℤ, T, ltb}
 use Rattle.lists.proofs.Prelude.{length, get_or, arith, lt-ltb, ltb-true}
-use Rattle.lists.proofs.Tests.{and_split, and_join, T-true, true-T}
+use Rattle.lists.proofs.Tests.{and_split, and_join, T-true, true-T, or-false, clash}
 use Rattle.bit_sets.specs.BitSets.{bit_at}
 use Rattle.bit_sets.proofs.Digits.{bit_at_none}
 use Rattle.pattern_set.specs.PatternSet.{PatternSet, good_set}
@@ -12,7 +12,7 @@ use Rattle.filter_plan.proofs.HitOrder.{good_number, hit_order-lt, length-hit_or
 use Rattle.filter_plan.proofs.Checks.{hit_likely}
 use Rattle.filter_tables.specs.Tables.{ranked}
 use Rattle.filter_windows.specs.Looks.{SetOf}
-use Rattle.filter_windows.specs.Groups.{LikelyGroups, NoneHit}
+use Rattle.filter_windows.specs.Groups.{LikelyGroups, NoneHit, HitGroup}
 
 -- with a likely pattern all that equal it are likely
 pub likely-groups : (ps : PatternSet) (text : List ℤ) (likely : ℕ) → SetOf ps (is_likely text) likely → LikelyGroups ps text likely
@@ -42,6 +42,38 @@ Found-none likely hit j h = (bit_at_none j ∙ go (bit_at likely j), λ t. t)
 -- no pattern is left
 pub none_left : (ps : PatternSet) (text : List ℤ) (rest : ℕ) → rest ≡ 0 → NoneHit ps text rest
 none_left ps text rest e r h t = absurd (subst T (ap (λ (n : ℕ). bit_at n r) e ∙ bit_at_none r) t)
+
+-- a group with a hit is found
+pub found_group : (ps : PatternSet) (text : List ℤ) (likely rest found members n rest' found' : ℕ)
+    → Found likely rest found (λ r. is_hit text (ranked ps r)) → HitGroup ps text rest members n rest'
+    → ((j : ℕ) → j < 64 → bit_at found' j ≡ (bit_at found j || bit_at members j)) → Found likely rest' found' (λ r. is_hit text (ranked ps r))
+found_group ps text likely rest found members n rest' found' inv g e j h = (
+  e j h ∙ go (bit_at members j) refl (bit_at rest j) refl (bit_at rest' j) refl,
+  λ t. (inv j h).1 (g.behind j h t).0,
+)
+  where
+    hit : Bool
+    hit = is_hit text (ranked ps j)
+
+    old : (b c : Bool) → bit_at rest j ≡ b → c ≡ (not b && hit) → (bit_at found j || false) ≡ (bit_at likely j && c)
+    old b c q f = or-false (bit_at found j) ∙ (inv j h).0 ∙ ap (λ (x : Bool). bit_at likely j && (not x && hit)) q
+        ∙ ap (λ (x : Bool). bit_at likely j && x) (sym f)
+
+    go : (b : Bool) → bit_at members j ≡ b → (c : Bool) → bit_at rest j ≡ c → (d : Bool) → bit_at rest' j ≡ d
+        → (bit_at found j || b) ≡ (bit_at likely j && (not d && hit))
+    go true q c f true k =
+        absurd (let t = T-true (bit_at rest' j) k in let z : ⊥ = omega (arith, (g.behind j h t).1 j h (T-true (bit_at members j) q)) in z)
+    go true q c f false k =
+        let m = g.hit j h (T-true (bit_at members j) q) in
+        rw (true-T (bit_at likely j) ((inv j h).1 m.0), true-T hit m.1) (or-true (bit_at found j))
+      where
+        or-true : (b : Bool) → (b || true) ≡ true
+        or-true true = refl
+        or-true false = refl
+    go false q true f true k = old true (not true && hit) f refl
+    go false q true f false k = old true (not false && hit) f (g.gone j h (T-true (bit_at rest j) f) q k)
+    go false q false f true k = clash (true-T (bit_at rest j) (g.behind j h (T-true (bit_at rest' j) k)).0) f
+    go false q false f false k = old false (not false && hit) f refl
 
 -- a pattern with a hit is likely
 pub likely_hit : (ps : PatternSet) (text : List ℤ) (likely : ℕ) → T (good_set ps) → SetOf ps (is_likely text) likely → (r : ℕ) → r < 64

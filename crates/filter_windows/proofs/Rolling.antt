@@ -2,7 +2,7 @@
 -- oldest out, so that after 16 places the fingerprint of 17 values is the same whatever it was
 -- before.
 use Rattle.std.specs.Prelude.{◌≡◌, ◌∷◌, ◌++◌, ◌+◌, ◌-◌, ◌*◌, ◌/◌, ◌%◌, ◌^◌, ◌≤◌, ◌<◌}
-use lib.Bits.{bit_and, bit_or, and_mask, or_shifted}
+use lib.Bits.{bit_and, bit_or, and_mask, and_le_r, or_shifted}
 use lib.Pow.{high, ones_lt, ones_split, mod-mod-pow}
 use Rattle.lists.proofs.Prelude.{◌∙◌, ap, sym, refl, Bool, true, false, cond, List, [], append_assoc, ℕ, zero, suc}
 use Rattle.lists.proofs.Prelude.{ℤ, pos, le_z, length, get_or, take, length-take, take-suc, mod-lt, pow-suc, mod-eq_of_lt}
@@ -41,6 +41,18 @@ new_bit-lt text (suc p) = go (le_z (get_or text p (pos 0)) (get_or text (suc p) 
 mask_ones : (d k : ℕ) → d + k ≡ 16 → 65535 / 2 ^ k ≡ 2 ^ d - 1
 mask_ones d k e =
     ap (λ (n : ℕ). (2 ^ n - 1) / 2 ^ k) (sym e) ∙ ap (λ (n : ℕ). n / 2 ^ k) (ones_split d k) ∙ high (2 ^ d - 1) k (ones_lt k)
+
+pub rolled : (n bit m : ℕ) → n < 65536 → bit < 2 → 1 ≤ m → m ≤ 17
+    → bit_and (bit_or (n * 2 % 4294967296) bit) (65535 / 2 ^ (17 - m)) ≡ (n * 2 + bit) % 2 ^ (m - 1)
+rolled n bit m h b l k =
+    let e : n * 2 % 4294967296 ≡ n * 2 = omega arith in
+    rw (e, or_shifted n 1 bit b, mask_ones (m - 1) (17 - m) (omega arith)) (and_mask (n * 2 + bit) (m - 1))
+
+-- bits of which the lowest 16 are the fingerprint of 17 values, and their lowest ones, by a mask
+pub masked_lt : (bits b : ℕ) → 1 ≤ b → b ≤ 17 → bit_and bits (65535 / 2 ^ (17 - b)) < 65536
+masked_lt bits b l k =
+    let le : 2 ^ (b - 1) ≤ 2 ^ 16 = pow-le-pow_right (omega arith) {i = b - 1} {j = 16} (omega arith) in
+    rw (mask_ones (b - 1) (17 - b) (omega arith)) (omega (arith, and_le_r bits (2 ^ (b - 1) - 1), le))
 
 pub masked : (bits b : ℕ) (text : List ℤ) → 1 ≤ b → b ≤ 17 → bits % 65536 ≡ text_fingerprint 17 text
     → bit_and bits (65535 / 2 ^ (17 - b)) ≡ text_fingerprint b text

@@ -16,7 +16,7 @@ pub struct InputSize {
 }
 
 /// The parts of bytes that are cut at each separator; one more than there are separators.
-#[derive(Drop)]
+#[derive(Clone, Copy)]
 struct Parts<'a> {
     rest: Option<&'a [u8]>,
     separator: u8,

@@ -36,7 +36,7 @@ pub fn write_rises(
         let m = automaton.records.ends(at);
         let depth = automaton.records.depth(at);
         let rise = readings.rise_over(place as usize, depth);
-        rises[n..n + m].fill(rise);
+        compute_rises::fill_rises(&mut rises[n..n + m], rise);
         n += m;
         let link = automaton.records.failure(at);
         at = automaton.records.output(link);

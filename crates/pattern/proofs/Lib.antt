@@ -1,1 +1,2 @@
 -- The root of the crate's laws.
+pub mod Laws

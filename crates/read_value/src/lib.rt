@@ -2,44 +2,61 @@
 // the node that this leads to.
 #![tactic(auto)]
 
-ghost use Rattle.std.specs.Prelude.{◌≡◌, ◌≤◌, ◌<◌};
-ghost use Rattle.lists.specs.Prelude.{true, ℕ, map, pos, length, get_or};
-ghost use Rattle.automaton_model.specs.Automaton.{head_of, listed};
+ghost use Rattle.std.specs.Prelude.{◌≡◌, ◌<◌};
+ghost use Rattle.lists.specs.Prelude.{true, pos, length, get_or};
 ghost use Rattle.search_model.specs.Ring.{good_ring};
-ghost use Rattle.search_model.specs.Search.{position_of, state_at, step};
 ghost use Rattle.automaton_lookup.specs.View.{patterns};
-ghost use Rattle.open_minima.specs.Parts.{ring_of};
+ghost use Rattle.open_minima.specs.Pushes.{ring_from, AreCounters};
+ghost use Rattle.read_value.specs.Read.{position_at, IsRead};
 
 use automaton_lookup::Automaton;
-use open_minima::Search;
 
-// Reads value i of `values` as the next one of a search; the attempts. A gap leads to node 0 and
-// leaves no minimum open.
-pub fn read_value(search: &mut Search, automaton: &Automaton, values: &[i32], i: usize) -> usize
-    requires index { i < length values.now }
-    requires node { search.old.state.node < automaton.now.records.made }
-    requires taken { search.old.state.taken ≤ 1048576 }
-    requires ring { good_ring search.old.state.taken (ring_of search.old.state) ≡ true }
-    ensures state { search.new.state
-        ≡ state_at (step (patterns automaton.now.records) (position_of search.old.state) (get_or values.now i (pos 0))).state search.old.state.recent }
-    ensures attempts { result ≡ (step (patterns automaton.now.records) (position_of search.old.state) (get_or values.now i (pos 0))).attempts }
-    ensures node { search.new.state.node < automaton.now.records.made }
-    ensures hits { (step (patterns automaton.now.records) (position_of search.old.state) (get_or values.now i (pos 0))).hits
-        ≡ map (λ (j : ℕ). (search.old.state.taken, j))
-        (listed (patterns automaton.now.records) (head_of (patterns automaton.now.records) search.new.state.node)) }
+// What a value leaves beside the arrays: the counters of the oldest open minimum and behind the
+// newest, the node, and the attempts.
+#[derive(Clone, Copy)]
+pub struct Read {
+    pub first: usize,
+    pub next: usize,
+    pub node: usize,
+    pub attempts: usize,
+}
+
+// Reads value i of `values` as the next one of a search, which has read so many as `taken`: the
+// places and values of its open minima lie in `places` and `heights`, from the counter `first` on
+// to before the counter `next`. A gap leads to node 0 and leaves no minimum open.
+// Nine parameters: the numbers of the search are parameters of their own, so that a loop keeps them
+// in registers; behind a `&mut` they are stored and read again for each value.
+pub fn read_value(
+    automaton: &Automaton,
+    places: &mut [u32; 256],
+    heights: &mut [i32; 256],
+    first: usize,
+    next: usize,
+    node: usize,
+    taken: u32,
+    values: &[i32],
+    i: usize,
+) -> Read
+    requires node { node < automaton.now.records.made }
+    requires are_counters { AreCounters taken first next × (i < length values.now) }
+    requires heights_value { good_ring taken (ring_from first next places.old heights.old) ≡ true }
+    ensures { IsRead (patterns automaton.now.records) (position_at taken node first next places.old heights.old)
+        (get_or values.now i (pos 0)) places.new heights.new result }
 {
     if gaps::is_gap(values, i) {
-        search.state.first %= 256;
-        search.state.minima = 0;
-        search.state.node = 0;
-        search.state.taken += 1;
-        return 0;
+        return Read {
+            first,
+            next: first,
+            node: 0,
+            attempts: 0,
+        };
     }
-    let distance = search.push(values[i]);
-    let reached = automaton
-        .records
-        .advance(search.state.node as usize, distance);
-    search.state.node = reached.node as u32;
-    search.state.taken += 1;
-    reached.attempts
+    let p = open_minima::push_minimum(places, heights, first, next, taken, values, i);
+    let a = automaton.records.advance(node, p.distance);
+    Read {
+        first: p.first,
+        next: p.next,
+        node: a.node,
+        attempts: a.attempts,
+    }
 }

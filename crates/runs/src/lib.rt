@@ -7,6 +7,8 @@ ghost use Rattle.runs.specs.Demands.{Demand2, Demand3};
 ghost use Rattle.runs.specs.FirstHit.{FirstHitTheorem};
 ghost use Rattle.runs.specs.Withdrawing.{WithdrawalTheorem};
 
+pub const VERSION: u32 = 1;
+
 // The second demand: distances are those of the tree, and a list of hits has each pair of pattern
 // and window with equal trees and no others. The first, that a refusal changes nothing, speaks of
 // entries of every type, which no clause can: each entry promises it of itself.

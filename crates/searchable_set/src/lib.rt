@@ -1,5 +1,5 @@
 // Checking the set that an entry is to search, or whose automaton it is to build: it must hold a
-// pattern, and none of one value. Refusals 1 5 15.
+// pattern, and none of one value. Document 02, 2.6; refusals 1 5 15.
 #![tactic(auto)]
 
 ghost use Rattle.std.specs.Prelude.{◌≡◌};

@@ -1,4 +1,4 @@
-// The patterns of a set array that is known to be good, read where they lie.
+// The patterns of a set array that is known to be good, read where they lie. Document 01: Set.
 #![tactic(auto)]
 
 ghost use Rattle.std.specs.Prelude.{◌≡◌, ◌+◌, ◌≤◌, ◌<◌};
@@ -115,7 +115,8 @@ pub fn pattern_length(set: &[u32], j: usize) -> usize
     requires j_in_bounds { j < length (patterns_of set.now) }
     ensures { result ≡ length (get_or (patterns_of set.now) j []) }
 {
-    Patterns::of(set).pattern(j).len()
+    let patterns = Patterns::of(set);
+    patterns.offset(j + 1) - patterns.offset(j)
 }
 
 // The distance at place i of pattern j.
@@ -124,5 +125,5 @@ pub fn distance_at(set: &[u32], j: usize, i: usize) -> u32
     requires j_in_bounds { (j < length (patterns_of set.now)) × (i < length (get_or (patterns_of set.now) j [])) }
     ensures { result ≡ get_or (get_or (patterns_of set.now) j []) i 0 }
 {
-    Patterns::of(set).pattern(j)[i]
+    set[pattern_start(set, j) + i]
 }

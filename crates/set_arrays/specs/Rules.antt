@@ -1,4 +1,5 @@
--- The set rules as they are tested on an array's words, whatever they are.
+-- The set rules as they are tested on an array's words, whatever they are. Document 01: Set;
+-- refusal 5.
 use Rattle.std.specs.Prelude.{◌≡◌, ◌+◌, ◌<◌, ◌≤◌}
 use Rattle.lists.specs.Prelude.{List, ℕ, T, length, get_or}
 use Rattle.realization.specs.Realization.{realizable}

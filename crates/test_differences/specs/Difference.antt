@@ -1,7 +1,7 @@
 -- What is told of a case: the first thing that differs from what is expected.
-use Rattle.std.specs.Prelude.{◌∷◌}
+use Rattle.std.specs.Prelude.{◌∷◌, ◌&&◌}
 use Rattle.std.specs.Option.{option_or}
-use Rattle.lists.specs.Prelude.{Bool, true, false, cond, List, [], ℕ, suc, ℤ, pos, eq_z, Option, None, Some}
+use Rattle.lists.specs.Prelude.{Bool, true, false, cond, List, [], ℕ, suc, ℤ, pos, eq_z, all, Option, None, Some}
 use Rattle.test_differences.specs.declared.difference.Part.{Part}
 use Rattle.test_differences.specs.declared.difference.Difference.{Difference}
 
@@ -43,6 +43,16 @@ compared_front value part i v [] gs = compared_held value part i v gs
 compared_front value part i v (e ∷ es) [] = differs part i (value e) (pos 0)
 compared_front value part i v (e ∷ es) (g ∷ gs) =
     option_or (compared part i (value e) (value g)) (compared_front value part (suc i) v es gs)
+
+-- does xs begin with ys, by the value of their numbers
+unfoldable pub begins_by : {A : Type 0} → (A → ℤ) → List A → List A → Bool
+begins_by value xs [] = true
+begins_by value [] (y ∷ ys) = false
+begins_by value (x ∷ xs) (y ∷ ys) = eq_z (value x) (value y) && begins_by value xs ys
+
+-- has every number of xs the value of v
+abbrev pub all_hold : {A : Type 0} → (A → ℤ) → A → List A → Bool
+all_hold value v xs = all (λ x. eq_z (value v) (value x)) xs
 
 -- words
 abbrev pub compared_words : List ℕ → List ℕ → Option Difference

@@ -1,7 +1,8 @@
 // What came of a case, held against what was expected: the first thing that differs, or none.
-ghost use Rattle.std.specs.Prelude.{◌≡◌};
-ghost use Rattle.lists.specs.Prelude.{ℤ, pos, drop};
+ghost use Rattle.std.specs.Prelude.{◌≡◌, ◌&&◌};
+ghost use Rattle.lists.specs.Prelude.{ℤ, pos, eqb, length, drop, all, begins};
 ghost use Rattle.test_differences.specs.Difference.{bit, differs, compared, compared_items, compared_held, compared_front, compared_words};
+ghost use Rattle.test_differences.specs.Difference.{is_nothing, begins_by, all_hold};
 ghost use Rattle.test_inputs.specs.Arrays.{before};
 
 use std::fmt;
@@ -212,7 +213,8 @@ pub fn expect<T: Number>(part: Part, expected: T, got: T) -> Option<Difference>
 
 // An array, held against one that begins with the numbers expected; behind these 0 is told.
 pub fn expect_items<T: Number>(part: Part, expected: &[T], got: &[T]) -> Option<Difference>
-    ensures { result ≡ compared_items T.value part 0 expected.now got.now }
+    ensures told { result ≡ compared_items T.value part 0 expected.now got.now }
+    ensures nothing { is_nothing result ≡ begins_by T.value expected.now got.now }
 {
     for i in 0..got.len() {
         if i >= expected.len() {
@@ -228,7 +230,8 @@ pub fn expect_items<T: Number>(part: Part, expected: &[T], got: &[T]) -> Option<
 
 // An array from a place on, each number of which is expected to be v.
 pub fn expect_held<T: Number>(part: Part, got: &[T], from: usize, v: T) -> Option<Difference>
-    ensures { result ≡ compared_held T.value part from v (drop from got.now) }
+    ensures told { result ≡ compared_held T.value part from v (drop from got.now) }
+    ensures nothing { is_nothing result ≡ all_hold T.value v (drop from got.now) }
 {
     for i in from..got.len() {
         let d = expect_at(part, i, v, got[i]);
@@ -241,7 +244,9 @@ pub fn expect_held<T: Number>(part: Part, got: &[T], from: usize, v: T) -> Optio
 
 // An array that is expected to begin with these numbers, and to hold v behind them.
 pub fn expect_front<T: Number>(part: Part, expected: &[T], v: T, got: &[T]) -> Option<Difference>
-    ensures { result ≡ compared_front T.value part 0 v expected.now got.now }
+    ensures told { result ≡ compared_front T.value part 0 v expected.now got.now }
+    ensures nothing { is_nothing result
+        ≡ begins_by T.value got.now expected.now && all_hold T.value v (drop (length expected.now) got.now) }
 {
     for i in 0..expected.len() {
         if i >= got.len() {
@@ -259,21 +264,25 @@ pub fn expect_front<T: Number>(part: Part, expected: &[T], v: T, got: &[T]) -> O
 
 // A word array, held against one that begins with the words expected.
 pub fn expect_words(expected: &[u32], got: &[u32]) -> Option<Difference>
-    ensures { result ≡ compared_words expected.now got.now }
+    ensures told { result ≡ compared_words expected.now got.now }
+    ensures nothing { is_nothing result ≡ begins expected.now got.now }
 {
     expect_items(Part::Word, expected, got)
 }
 
 // Every word of an array is expected to be what arrays hold before an entry writes to them.
 pub fn expect_unwritten(got: &[u32]) -> Option<Difference>
-    ensures { result ≡ compared_held pos Part.Word 0 before got.now }
+    ensures told { result ≡ compared_held pos Part.Word 0 before got.now }
+    ensures nothing { is_nothing result ≡ all (λ x. eqb x before) got.now }
 {
     expect_held(Part::Word, got, 0, arrays::BEFORE)
 }
 
 // An array that is expected to begin with these words, and to hold behind them what it held before.
 pub fn expect_written(expected: &[u32], got: &[u32]) -> Option<Difference>
-    ensures { result ≡ compared_front pos Part.Word 0 before expected.now got.now }
+    ensures told { result ≡ compared_front pos Part.Word 0 before expected.now got.now }
+    ensures nothing { is_nothing result
+        ≡ begins got.now expected.now && all (λ x. eqb x before) (drop (length expected.now) got.now) }
 {
     expect_front(Part::Word, expected, arrays::BEFORE, got)
 }

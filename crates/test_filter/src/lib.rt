@@ -3,7 +3,10 @@
 // and the rises. No function asks anything of its caller.
 #![tactic(auto)]
 
-ghost use Rattle.std.specs.Prelude.{◌≤◌};
+ghost use Rattle.std.specs.Prelude.{◌≡◌, ◌++◌, ◌≤◌};
+ghost use Rattle.lists.specs.Prelude.{take, drop};
+ghost use Rattle.answers.specs.Told.{told_filtered};
+ghost use Rattle.entries.specs.Entries.{told, after, filter_entry, filter_rises};
 
 use answers::{Filtered, Refusal};
 use test_differences::difference::{Difference, Part};
@@ -26,7 +29,14 @@ pub fn search(
     values: usize,
     out: &mut [u32],
     rises: &mut [i32],
-) -> Result<Filtered, Refusal> {
+) -> Result<Filtered, Refusal>
+    ensures result_value { told_filtered result
+        ≡ told (0, 0) (filter_entry set.now text.now (take room out.old) (take values rises.old)) }
+    ensures hits_after { out.new ≡ after (filter_entry set.now text.now (take room out.old)
+        (take values rises.old)) (take room out.old) ++ drop room out.old }
+    ensures rises_after { rises.new ≡ after (filter_rises set.now text.now (take room out.old)
+        (take values rises.old)) (take values rises.old) ++ drop values rises.old }
+{
     let n = room.min(out.len());
     let m = values.min(rises.len());
     finder::filter_search(set, text, &mut out[..n], &mut rises[..m])
@@ -42,13 +52,18 @@ pub fn expect_refused(
     number: u64,
     room: usize,
     values: usize,
-) -> Option<Difference> {
+) -> Compared
+    ensures { result.words ≤ 2048 }
+{
     let mut out = [arrays::BEFORE; 2048];
     let mut rises = [test_rises::BEFORE; 1024];
     let a = search(set, text, room, values, &mut out, &mut rises);
-    expect::answered(Err(number), a)
-        .or(difference::expect_unwritten(&out))
-        .or(test_rises::expect_front(&[], &rises))
+    Compared {
+        words: room.min(2048),
+        difference: expect::answered(Err(number), a)
+            .or(difference::expect_unwritten(&out))
+            .or(test_rises::expect_front(&[], &rises)),
+    }
 }
 
 // A hit array of an odd number of words with room for the list, and a second array one value too
@@ -57,7 +72,7 @@ fn expect_odd_refused(set: &[u32], text: &[i32], words: usize) -> Option<Differe
     requires { words ≤ 2048 }
 {
     let odd = words + 1 + words % 8;
-    expect_refused(set, text, 10, odd, test_rises::least(odd) - 1)
+    expect_refused(set, text, 10, odd, test_rises::least(odd) - 1).difference
 }
 
 // A hit array one word too short: 11, and with a second array one value too short for it 10.
@@ -66,9 +81,10 @@ fn expect_less_refused(set: &[u32], text: &[i32], words: usize) -> Option<Differ
         return None;
     }
     let values = test_rises::least(words - 1);
-    expect_refused(set, text, 11, words - 1, values)
-        .or(expect_refused(set, text, 10, words - 1, values - 1))
-        .or(expect_refused(set, text, 10, words, values - 1))
+    let list = expect_refused(set, text, 11, words - 1, values);
+    let both = expect_refused(set, text, 10, words - 1, values - 1);
+    let exact = expect_refused(set, text, 10, words, values - 1);
+    list.difference.or(both.difference).or(exact.difference)
 }
 
 // ---- found

@@ -3,7 +3,9 @@
 #![tactic(auto)]
 
 ghost use Rattle.std.specs.Prelude.{◌≡◌, ◌≤◌, ◌<◌};
-ghost use Rattle.lists.specs.Prelude.{length};
+ghost use Rattle.lists.specs.Prelude.{length, take, drop};
+ghost use Rattle.answers.specs.Told.{told_streamed};
+ghost use Rattle.entries.specs.Entries.{told, after, stream_entry, stream_rises, stream_state};
 
 use answers::{SearchState, Streamed};
 use test_inputs::texts;
@@ -98,7 +100,16 @@ pub fn take(
     end: usize,
     hits: &mut [u32],
     rises: &mut [i32],
-) -> Streamed {
+) -> Streamed
+    ensures answer_value { told_streamed result.answer ≡ told (0, 0, 0, 0) (stream_entry search.entry.set.now
+        search.entry.automaton.now state (drop state.taken (take end search.entry.text.now)) hits.old rises.old) }
+    ensures state_value { result.state ≡ stream_state search.entry.set.now search.entry.automaton.now state
+        (drop state.taken (take end search.entry.text.now)) hits.old rises.old }
+    ensures hits_after { hits.new ≡ after (stream_entry search.entry.set.now search.entry.automaton.now state
+        (drop state.taken (take end search.entry.text.now)) hits.old rises.old) hits.old }
+    ensures rises_after { rises.new ≡ after (stream_rises search.entry.set.now search.entry.automaton.now state
+        (drop state.taken (take end search.entry.text.now)) hits.old rises.old) rises.old }
+{
     let e = end.min(search.text.len());
     let a = (state.taken as usize).min(e);
     let values = &search.text[a..e];

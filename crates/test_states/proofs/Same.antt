@@ -29,7 +29,7 @@ number_refl part a = nothing_compared part 0 (pos a) (pos a) ∙ eq-eqb a a refl
 
 -- ---- the slots
 
-items_same : {A : Type 0} (value : A → ℤ) → ((x y : A) → eq_z (value x) (value y) ≡ true → x ≡ y)
+pub items_same : {A : Type 0} (value : A → ℤ) → ((x y : A) → eq_z (value x) (value y) ≡ true → x ≡ y)
     → (part : Part) (i : ℕ) (xs ys : List A) → length xs ≡ length ys → is_nothing (compared_items value part i xs ys) ≡ true → xs ≡ ys
 unfolding compared_items
 items_same value one part i [] [] e h = refl
@@ -41,7 +41,7 @@ items_same value one part i (x ∷ xs) (y ∷ ys) e h =
     (one x y (sym (nothing_compared part i (value x) (value y)) ∙ p.0))
     (items_same value one part (suc i) xs ys (omega arith) p.1)
 
-items_refl : {A : Type 0} (value : A → ℤ) (part : Part) (i : ℕ) (xs : List A) → is_nothing (compared_items value part i xs xs) ≡ true
+pub items_refl : {A : Type 0} (value : A → ℤ) (part : Part) (i : ℕ) (xs : List A) → is_nothing (compared_items value part i xs xs) ≡ true
 unfolding compared_items
 items_refl value part i [] = refl
 items_refl value part i (x ∷ xs) =

@@ -3,7 +3,7 @@
 #![tactic(auto)]
 
 ghost use Rattle.std.specs.Prelude.{◌≡◌, ◌+◌, ◌%◌, ◌^◌};
-ghost use Rattle.test_tally.specs.Tally.{no_cases, counted, joined};
+ghost use Rattle.test_tally.specs.Tally.{no_cases, counted, joined, IsCounted};
 
 use test_differences::difference::Difference;
 
@@ -52,7 +52,7 @@ impl Tally {
 
 // Cases that are run one after the other: what was counted, and where the first failed ones are
 // printed.
-#[derive(Drop)]
+#[derive(Clone, Copy)]
 pub struct Cases<'a> {
     rt: &'a HostRuntime,
     pub tally: Tally,
@@ -112,10 +112,11 @@ impl<'a> Cases<'a> {
         self.tally = self.tally.count(d);
     }
 
-    // The cases of the numbers below n.
+    // The cases of the numbers below n, each of which is counted by what its call told.
     pub fn all<F: Fn(usize) -> Option<Difference>>(&mut self, group: &str, n: usize, case: F)
         requires { F.IsAlwaysCallable case }
-        ensures { self.new.tally.cases % 2 ^ 64 ≡ (self.old.tally.cases + n) % 2 ^ 64 }
+        ensures cases { self.new.tally.cases % 2 ^ 64 ≡ (self.old.tally.cases + n) % 2 ^ 64 }
+        ensures counted { IsCounted (λ i d. F.post case i d) self.old.tally n self.new.tally }
     {
         for i in 0..n {
             self.numbered(group, i, case(i));
@@ -149,7 +150,8 @@ pub fn run<F: Fn(usize) -> Option<Difference>>(
     case: F,
 ) -> Tally
     requires { F.IsAlwaysCallable case }
-    ensures { result.cases % 2 ^ 64 ≡ n % 2 ^ 64 }
+    ensures cases { result.cases % 2 ^ 64 ≡ n % 2 ^ 64 }
+    ensures counted { IsCounted (λ i d. F.post case i d) no_cases n result }
 {
     let mut cases = Cases::new(rt);
     cases.all(group, n, case);

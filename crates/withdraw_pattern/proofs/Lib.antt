@@ -3,3 +3,4 @@ pub mod Replacing
 pub mod Removing
 pub mod Sizes
 pub mod Withdrawing
+pub mod Entry

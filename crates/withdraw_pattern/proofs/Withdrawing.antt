@@ -2,7 +2,7 @@
 -- entry's result.
 use Rattle.std.specs.Prelude.{◌≡◌, ◌∷◌, ◌++◌, ◌+◌, ◌-◌, ◌≤◌, ◌<◌}
 use Rattle.lists.proofs.Prelude.{◌∙◌, ap, subst, List, [], map, flatten, ℕ, suc, length, get_or, take, drop, set, replicate}
-use Rattle.lists.proofs.Prelude.{length-append, length-drop, length-take-le, get_or-set_other, take-take, arith}
+use Rattle.lists.proofs.Prelude.{length-append, length-drop, length-take-le, length-replicate, get_or-set_other, take-take, arith}
 use Rattle.lists.proofs.Rows.{flatten-append, length-flatten-take}
 use Rattle.pattern_set.specs.PatternSet.{PatternSet, set_words, patterns_of, without}
 use Rattle.pattern_set.proofs.Words.{length-set_words}
@@ -125,6 +125,14 @@ module _ {ws : List ℕ} {j k n o m : ℕ} (s : Sizes ws j k n o m) where
 
   unused : 1 + m ≡ length (set_words ps) - length (set_words (without j ps))
   unused = omega (arith, words_without ps j s.below, s.long)
+
+  pub Cleared-length : (vs : List ℕ) → Cleared vs → length vs ≡ length ws
+  Cleared-length vs e =
+      let qs = without j ps in
+      let zeros : List ℕ = replicate (1 + m) 0 in
+      let l : length zeros ≡ 1 + m = length-replicate (1 + m) 0 in
+      length-Over (set_words qs ++ zeros) ws vs
+      (omega (arith, length-append (set_words qs) zeros, l, unused, length-set_words qs, length-set_words ps, set_fits ws s.good)) e
 
   pub Cleared-after : (vs : List ℕ) → Cleared vs → vs ≡ after (withdraw_entry ws j) ws
   Cleared-after vs e =

@@ -1,17 +1,7 @@
-// Words of an array, moved towards its front.
+// Words of an array, written from the front on.
 ghost use Rattle.std.specs.Prelude.{◌≡◌, ◌+◌, ◌-◌, ◌≤◌, ◌<◌};
 ghost use Rattle.lists.specs.Prelude.{map, ℕ, length, get_or, take, drop, replicate};
 ghost use Rattle.withdraw_pattern.specs.Replaced.{replaced};
-
-// Makes each number smaller by m.
-fn lower(numbers: &mut [u32], m: u32)
-    requires { (i : ℕ) → i < length numbers.old → m ≤ get_or numbers.old i 0 }
-    ensures { numbers.new ≡ map (λ w. w - m) numbers.old }
-{
-    for i in 0..numbers.len() {
-        numbers[i] -= m;
-    }
-}
 
 // Moves the n words behind `at` down by one, each made smaller by m.
 pub fn lower_offsets(words: &mut [u32], at: usize, n: usize, m: u32)
@@ -19,8 +9,9 @@ pub fn lower_offsets(words: &mut [u32], at: usize, n: usize, m: u32)
     requires by_index { (i : ℕ) → i < n → m ≤ get_or words.old (at + 1 + i) 0 }
     ensures { words.new ≡ replaced at (map (λ w. w - m) (take n (drop (at + 1) words.old))) words.old }
 {
-    words.copy_within(at + 1..at + 1 + n, at);
-    lower(&mut words[at..at + n], m);
+    for i in 0..n {
+        words[at + i] = words[at + 1 + i] - m;
+    }
 }
 
 // Moves the n words that begin `by` words behind `at` down to `at`.

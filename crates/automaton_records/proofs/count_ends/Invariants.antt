@@ -7,4 +7,4 @@ use Rattle.automaton_model.specs.Automaton.{head_of, ends_at}
 use Rattle.automaton_records.proofs.count_ends.Given as goal
 
 abbrev pub invariant-loop-i : goal.invariant-loop-i
-invariant-loop-i l = (l.node.place ≤ l.i) × (l.i ≤ l.node.place + ends_at (patterns l.node.records) (head_of (patterns l.node.records) l.node.records.made))
+invariant-loop-i l = (l.place ≤ l.i) × (l.i ≤ l.place + ends_at (patterns l.node.records) (head_of (patterns l.node.records) l.node.records.made))

@@ -5,13 +5,13 @@ use Rattle.lists.proofs.Prelude.{arith}
 use Rattle.automaton_lookup.specs.View.{patterns}
 use Rattle.automaton_model.specs.Automaton.{head_of}
 use Rattle.automaton_rows.proofs.Shared.{interval_more, interval_stops, interval_last}
-use Rattle.automaton_rows.proofs.Sizes.{node_some}
+use Rattle.automaton_rows.proofs.Sizes.{node_some, places_small}
 use Rattle.automaton_records.proofs.interval_end.Goals as goal
 
 pub overflow_step-i : goal.overflow_step-i
 overflow_step-i c =
-    let b = node_some (patterns c.args.node.now.records) c.args.node.now.records.made c.args.node.now.number.1 in
-    omega arith
+    let records = c.args.node.now.records in
+    omega (arith, c.requires.place_value, (places_small records.set.now records.begun.is_set records.made).0)
 
 pub loop-i-init : goal.loop-i-init
 loop-i-init c =

@@ -7,4 +7,4 @@ use Rattle.automaton_lookup.specs.Places.{end_of}
 use Rattle.automaton_records.proofs.interval_end.Given as goal
 
 abbrev pub invariant-loop-i : goal.invariant-loop-i
-invariant-loop-i l = (l.node.place < l.i) × (l.i ≤ end_of (patterns l.node.records) l.node.records.made)
+invariant-loop-i l = (l.place < l.i) × (l.i ≤ end_of (patterns l.node.records) l.node.records.made)

@@ -21,13 +21,13 @@ longer c =
 first : (c : After-pattern_at-pattern) →
     let ps = patterns c.args.node.now.records in
     c.pattern_at-pattern.result.now ≡ pattern_at ps (place_of ps c.args.node.now.records.made)
-first c = c.pattern_at-pattern.ensures ∙ ap (pattern_at (patterns c.args.node.now.records)) c.args.node.now.placed
+first c = c.pattern_at-pattern.ensures ∙ ap (pattern_at (patterns c.args.node.now.records)) c.requires.place_value
 
 pub pattern_at-pattern-requires : goal.pattern_at-pattern-requires
 pattern_at-pattern-requires c =
     let ps = patterns c.args.node.now.records in
     let n = c.args.node.now.records.made in
-    omega (arith, c.args.node.now.placed, (first_place-length ps (head_of ps n) (node_head ps n c.args.node.now.number.1).0).0)
+    omega (arith, c.requires.place_value, (first_place-length ps (head_of ps n) (node_head ps n c.args.node.now.number.1).0).0)
 
 pub overflow_sub-result : goal.overflow_sub-result
 overflow_sub-result c = omega (arith, c.args.node.now.deep, longer (goal.at.overflow_sub-result c).Start)

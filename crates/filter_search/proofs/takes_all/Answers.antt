@@ -10,8 +10,8 @@ overflow_mul-result c =
       arith,
       mul-le-mul_right c.pattern_count-k.result c.requires.n_bound,
       c.pattern_count-k.ensures,
-      count_le c.args.tables.now.set.now
-          c.args.tables.now.good,
+      count_le c.args.tables.now.tables.windows.set.now
+          c.args.tables.now.tables.windows.good,
     )
 
 pub overflow_mul-result-2 : goal.overflow_mul-result-2
@@ -20,8 +20,8 @@ overflow_mul-result-2 c =
       arith,
       mul-le-mul_right c.pattern_count-k.result c.requires.n_bound,
       c.pattern_count-k.ensures,
-      count_le c.args.tables.now.set.now
-          c.args.tables.now.good,
+      count_le c.args.tables.now.tables.windows.set.now
+          c.args.tables.now.tables.windows.good,
     )
 
 pub returns : goal.returns

@@ -33,7 +33,7 @@ more : (c : After-output-at-in-loop-at) →
     let n = c.loop-at.n in
     let k = n + c.ends-m.result - n in
     Risen ps (value_in a.readings.now) a.place a.node a.rises.now c.output-at-in-loop-at.result
-    (n + c.ends-m.result) (take n c.loop-at.rises ++ (c.fill.new.self ++ drop k (drop n c.loop-at.rises)))
+    (n + c.ends-m.result) (take n c.loop-at.rises ++ (c.fill_rises.new.rises ++ drop k (drop n c.loop-at.rises)))
     × (length (head_of ps c.output-at-in-loop-at.result) < length (head_of ps c.loop-at.at))
 more c =
     let a = c.args in
@@ -49,8 +49,8 @@ more c =
     rising_more ps (made_good m) m.filled f a.place a.node
     a.rises.now c.loop-at.at c.loop-at.n c.loop-at.rises c.loop-at.invariant c.loop-at-test.true c.ends-m.result v c.ends-m.ensures value
     c.failure-link.result c.output-at-in-loop-at.result c.failure-link.ensures c.output-at-in-loop-at.ensures
-    (c.loop-at.n + c.ends-m.result - c.loop-at.n) c.fill.new.self (omega arith)
-    (c.fill.ensures.after (λ y e. e) ∙ ap (λ (i : ℕ). replicate i v) part)
+    (c.loop-at.n + c.ends-m.result - c.loop-at.n) c.fill_rises.new.rises (omega arith)
+    (c.fill_rises.ensures ∙ ap (λ (i : ℕ). replicate i v) part)
 
 pub loop-at-init : goal.loop-at-init
 loop-at-init c =
@@ -73,8 +73,8 @@ rise_over-rise-requires c =
 pub overflow_add-n : goal.overflow_add-n
 overflow_add-n c = let r = room (goal.at.overflow_add-n c).In-loop-at in omega (arith, r, c.ends-m.ensures)
 
-pub slice_bounds-fill-end : goal.slice_bounds-fill-end
-slice_bounds-fill-end c = let r = room (goal.at.slice_bounds-fill-end c).In-loop-at in omega (arith, r, c.ends-m.ensures)
+pub slice_bounds-fill_rises-end : goal.slice_bounds-fill_rises-end
+slice_bounds-fill_rises-end c = let r = room (goal.at.slice_bounds-fill_rises-end c).In-loop-at in omega (arith, r, c.ends-m.ensures)
 
 pub output-at-requires-in-loop-at : goal.output-at-requires-in-loop-at
 output-at-requires-in-loop-at c =

@@ -1,92 +1,131 @@
 -- `take_values` meets its contract: what is done so far and then the call from the present position
 -- are the whole call (`Taking`).
 use Rattle.std.specs.Prelude.{◌≡◌, ◌++◌, ◌+◌, ◌-◌, ◌*◌}
-use Rattle.lists.proofs.Prelude.{◌∙◌, ap, ap₂, refl, subst, List, map, ℕ, ℤ, pos, length, get_or, take, drop, arith}
+use Rattle.lists.proofs.Prelude.{◌∙◌, ap, refl, subst, map, ℕ, ℤ, pos, length, get_or, take, drop, arith}
 use Rattle.matching.specs.Rise.{rise}
 use Rattle.pattern_set.proofs.Good.{good_set_parts}
-use Rattle.answers.specs.declared.SearchState.{SearchState}
 use Rattle.automaton_lookup.specs.View.{patterns}
 use Rattle.automaton_lookup.proofs.Words.{made_good}
 use Rattle.search_model.specs.Recent.{found_at}
-use Rattle.search_model.specs.Search.{position_of, state_at}
-use Rattle.stream_call.specs.Taken.{step_at, call_at, IsDone}
-use Rattle.stream_call.proofs.Taking.{Taking, Taking-start, Taking-more, Finished, taking_ended, taking_full}
-use Rattle.stream_call.proofs.Taking.{state_exact, stepped_first, stepped_position}
-use Rattle.stream_call.proofs.take_values.Goals.{After-step-moved, Then-hits-found, After-loop-i}
+use Rattle.search_model.specs.Search.{Position, step}
+use Rattle.search_model.proofs.Good.{good, Good-few}
+use Rattle.open_minima.specs.Pushes.{AreCounters, ring_from}
+use Rattle.read_value.specs.Read.{position_at}
+use Rattle.stream_call.specs.Numbers.{IsTaken}
+use Rattle.stream_call.proofs.Taking.{Taking, Taking-start, Taking-more, Finished, taking_ended, taking_full, found_in}
+use Rattle.stream_call.proofs.take_values.Goals.{Start, After-step-moved, Then-hits-found, After-loop-i}
 use Rattle.stream_call.proofs.take_values.Goals as goal
+
+-- where the call begins, and the values that it finds
+abbrev from : Start → Position
+from s = let a = s.args in position_at a.taken a.node a.first a.next a.places.now a.heights.now
 
 -- the call after one value more
 more : (c : After-step-moved) →
-    let ps = patterns c.args.automaton.now.records in
-    let st = c.args.search.now.state in
+    let a = c.args in
     let L = c.loop-i in
     let r = c.step-moved in
-    Taking ps (position_of st) c.args.values.now c.args.hits.now (found_at st.taken st.recent c.args.values.now) c.args.rises.now
-    (position_of r.new.search.state) (L.i + 1) (L.found + r.result.hits) (L.attempts + r.result.attempts)
+    Taking (patterns a.automaton.now.records) (position_at a.taken a.node a.first a.next a.places.now a.heights.now) a.values.now a.hits.now
+    (found_at a.taken a.recent.now a.values.now) a.rises.now
+    (position_at (a.taken + L.i + 1) r.result.node r.result.first r.result.next r.new.places r.new.heights)
+    (L.i + 1) (L.found + r.result.hits) (L.attempts + r.result.attempts)
     (take (2 * L.found) L.hits ++ (r.new.hits ++ drop (length L.hits - 2 * L.found) (drop (2 * L.found) L.hits)))
     (take L.found L.rises ++ (r.new.rises ++ drop (length L.rises - L.found) (drop L.found L.rises)))
 more c =
-    let ps = patterns c.args.automaton.now.records in
-    let m = c.args.automaton.now.records.begun in
+    let a = c.args in
+    let ps = patterns a.automaton.now.records in
+    let m = a.automaton.now.records.begun in
     let L = c.loop-i in
     let r = c.step-moved in
-    let st = c.args.search.now.state in
-    let s = step_at c.args.automaton.now.records L.search.state (get_or c.args.values.now L.i (pos 0)) in
+    let s = step ps (position_at (a.taken + L.i) L.at L.oldest L.newest L.places L.heights) (get_or a.values.now L.i (pos 0)) in
     let part = take (length L.rises - L.found) (drop L.found L.rises) in
     let v = r.ensures.rises
-    ∙ ap (λ (recent : List ℤ). map (rise ps (found_at st.taken recent c.args.values.now)) s.hits ++ drop (length s.hits) part) L.invariant.recent in
+    ∙ ap (λ (at : ℕ → ℤ). map (rise ps at) s.hits ++ drop (length s.hits) part) (found_in _ a.taken a.recent.now a.values.now refl refl refl) in
     Taking-more ps (made_good m) m.filled _ _ _ _ _ _ _ _ _ _ _ L.invariant.taking c.loop-i-test.true (omega (arith, c.if-hits-found.false, m.patterns))
-    (position_of r.new.search.state) r.result.hits r.result.attempts _ _ _ _
-    (stepped_position ps L.search.state r.new.search.state (get_or c.args.values.now L.i (pos 0)) L.search.state.recent r.ensures.state)
-    r.ensures.attempts r.ensures.hits refl refl r.ensures.words v
+    (position_at (a.taken + L.i + 1) r.result.node r.result.first r.result.next r.new.places r.new.heights) r.result.hits r.result.attempts _ _ _ _
+    r.ensures.state r.ensures.attempts r.ensures.hits refl refl r.ensures.words v
 
 pub loop-i-init : goal.loop-i-init
 loop-i-init c =
-    let m = c.args.automaton.now.records.begun in
-    let st = c.args.search.now.state in
+    let a = c.args in
+    let m = a.automaton.now.records.begun in
+    let here : a.taken ≡ a.taken + 0 = omega arith in
     record {
-      taking = Taking-start (patterns c.args.automaton.now.records) (made_good m) m.filled (position_of st) c.args.values.now c.args.hits.now
-          (found_at st.taken st.recent c.args.values.now) c.args.rises.now c.requires.depth c.requires.arrays
-          (omega (arith, c.requires.node, c.args.automaton.now.whole)) c.requires.ring c.requires.sized.0 c.requires.sized.1;
-      first = c.requires.first;
-      recent = refl;
+      taking = subst (λ (n : ℕ). Taking (patterns a.automaton.now.records) (position_at a.taken a.node a.first a.next a.places.now a.heights.now)
+          a.values.now a.hits.now (found_at a.taken a.recent.now a.values.now) a.rises.now
+          (position_at n a.node a.first a.next a.places.now a.heights.now) 0 0 0 a.hits.now a.rises.now) here
+          (Taking-start (patterns a.automaton.now.records) (made_good m) m.filled
+          (position_at a.taken a.node a.first a.next a.places.now a.heights.now) a.values.now a.hits.now
+          (found_at a.taken a.recent.now a.values.now) a.rises.now c.requires.depth c.requires.arrays
+          (omega (arith, c.requires.node, a.automaton.now.whole)) c.requires.ring c.requires.sized.0 c.requires.sized.1);
+      counters = subst (λ (n : ℕ). AreCounters n a.first a.next) here c.requires.are_counters;
     }
 
-pub overflow_mul-automaton : goal.overflow_mul-automaton
-overflow_mul-automaton c =
+pub overflow_mul-view : goal.overflow_mul-view
+overflow_mul-view c =
     let m = c.args.automaton.now.records.begun in
     omega (arith, m.patterns, (good_set_parts (patterns c.args.automaton.now.records) (made_good m)).0)
 
+pub step-moved-requires : goal.step-moved-requires
+step-moved-requires c =
+    let L = c.loop-i in
+    let t = L.invariant.taking in
+    let m = c.args.automaton.now.records.begun in record {
+      node = omega (arith, t.node, c.args.automaton.now.whole);
+      room = (
+        omega (arith, c.if-hits-found.false, m.patterns),
+        omega (arith, c.if-hits-found.false, m.patterns, t.counted, t.sized, t.risen_sized, t.risen_room),
+      );
+      are_counters = L.invariant.counters;
+      index = c.loop-i-test.true;
+      place = refl;
+      start = omega (arith, c.requires.taken);
+      ring = t.ring;
+      depth = t.depth;
+    }
+
 -- too few words are free
 full : (c : Then-hits-found) →
-    let ps = patterns c.args.automaton.now.records in
-    let st = c.args.search.now.state in
-    let m = c.args.automaton.now.records.begun in
+    let a = c.args in
+    let ps = patterns a.automaton.now.records in
+    let m = a.automaton.now.records.begun in
     let L = c.loop-i in
-    Finished ps (made_good m) m.filled (position_of st) c.args.values.now c.args.hits.now (position_of L.search.state) L.i L.found L.attempts L.hits
-    (found_at st.taken st.recent c.args.values.now) c.args.rises.now L.rises L.invariant.taking
+    Finished ps (made_good m) m.filled (position_at a.taken a.node a.first a.next a.places.now a.heights.now) a.values.now a.hits.now
+    (position_at (a.taken + L.i) L.at L.oldest L.newest L.places L.heights) L.i L.found L.attempts L.hits
+    (found_at a.taken a.recent.now a.values.now) a.rises.now L.rises L.invariant.taking
 full c =
     let ps = patterns c.args.automaton.now.records in
     let m = c.args.automaton.now.records.begun in
     taking_full ps (made_good m) m.filled _ _ _ _ _ _ _ _ _ _ _ c.loop-i.invariant.taking c.loop-i-test.true
     (omega (arith, c.if-hits-found.true, m.patterns))
 
-pub returns-then-hits-found-clause-state : goal.returns-then-hits-found-clause-state
-returns-then-hits-found-clause-state c =
-    state_exact c.loop-i.search.state c.loop-i.invariant.first
-    ∙ ap₂ state_at (full (goal.at.returns-then-hits-found-clause-state c).Then-hits-found).0 c.loop-i.invariant.recent
-
-pub returns-then-hits-found-clause-done : goal.returns-then-hits-found-clause-done
-returns-then-hits-found-clause-done c = (full (goal.at.returns-then-hits-found-clause-done c).Then-hits-found).1
+pub returns-then-hits-found : goal.returns-then-hits-found
+returns-then-hits-found c =
+    let L = c.loop-i in
+    let t = L.invariant.taking in
+    let f = full (goal.at.returns-then-hits-found c).Then-hits-found in record {
+      state = f.0;
+      counters = L.invariant.counters;
+      minima = (omega (
+        arith,
+        L.invariant.counters.ordered,
+        Good-few (c.args.taken + L.i) (ring_from L.oldest L.newest L.places L.heights)
+            (good (c.args.taken + L.i) (ring_from L.oldest L.newest L.places L.heights) t.ring),
+      ));
+      node = t.node;
+      within = t.within;
+      done = f.1;
+    }
 
 -- no value is left
 ended : (c : After-loop-i) →
-    let ps = patterns c.args.automaton.now.records in
-    let st = c.args.search.now.state in
-    let m = c.args.automaton.now.records.begun in
+    let a = c.args in
+    let ps = patterns a.automaton.now.records in
+    let m = a.automaton.now.records.begun in
     let L = c.loop-i in
-    Finished ps (made_good m) m.filled (position_of st) c.args.values.now c.args.hits.now (position_of L.search.state) L.i L.found L.attempts L.hits
-    (found_at st.taken st.recent c.args.values.now) c.args.rises.now L.rises L.invariant.taking
+    Finished ps (made_good m) m.filled (position_at a.taken a.node a.first a.next a.places.now a.heights.now) a.values.now a.hits.now
+    (position_at (a.taken + L.i) L.at L.oldest L.newest L.places L.heights) L.i L.found L.attempts L.hits
+    (found_at a.taken a.recent.now a.values.now) a.rises.now L.rises L.invariant.taking
 ended c =
     let ps = patterns c.args.automaton.now.records in
     let m = c.args.automaton.now.records.begun in
@@ -99,26 +138,42 @@ overflow_add-attempts c =
 
 pub loop-i-preserved : goal.loop-i-preserved
 loop-i-preserved c =
-    let st = c.args.search.now.state in
+    let a = c.args in
+    let L = c.loop-i in
     let r = c.step-moved in
+    let e : a.taken + L.i + 1 ≡ a.taken + (L.i + 1) = omega arith in
     record {
-      taking = more (goal.at.loop-i-preserved c).After-step-moved;
-      first = stepped_first (patterns c.args.automaton.now.records) c.loop-i.search.state _ _ _ r.ensures.state;
-      recent = ap (λ (s : SearchState). s.recent) r.ensures.state ∙ c.loop-i.invariant.recent;
+      taking = subst (λ (n : ℕ). Taking (patterns a.automaton.now.records) (position_at a.taken a.node a.first a.next a.places.now a.heights.now)
+          a.values.now a.hits.now (found_at a.taken a.recent.now a.values.now) a.rises.now
+          (position_at n r.result.node r.result.first r.result.next r.new.places r.new.heights)
+          (L.i + 1) (L.found + r.result.hits) (L.attempts + r.result.attempts)
+          (take (2 * L.found) L.hits ++ (r.new.hits ++ drop (length L.hits - 2 * L.found) (drop (2 * L.found) L.hits)))
+          (take L.found L.rises ++ (r.new.rises ++ drop (length L.rises - L.found) (drop L.found L.rises)))) e
+          (more (goal.at.loop-i-preserved c).After-step-moved);
+      counters = subst (λ (n : ℕ). AreCounters n r.result.first r.result.next) e r.ensures.counters;
     }
 
-pub returns-clause-state : goal.returns-clause-state
-returns-clause-state c =
-    state_exact c.loop-i.search.state c.loop-i.invariant.first
-    ∙ ap₂ state_at (ended (goal.at.returns-clause-state c).After-loop-i).0 c.loop-i.invariant.recent
-
-pub returns-clause-done : goal.returns-clause-done
-returns-clause-done c =
-    let ps = patterns c.args.automaton.now.records in
-    let st = c.args.search.now.state in
-    let xs = c.args.values.now in
+pub returns : goal.returns
+returns c =
+    let a = c.args in
     let L = c.loop-i in
-    let all : L.i ≡ length xs = omega (arith, L.invariant.taking.within, c.loop-i-test.false) in
-    subst (λ (n : ℕ). IsDone ps (found_at st.taken st.recent xs) xs (call_at c.args.automaton.now.records st (length c.args.hits.now) xs)
-    c.args.hits.now L.hits c.args.rises.now L.rises (record { taken = n; hits = L.found; attempts = L.attempts })) all
-    (ended (goal.at.returns-clause-done c).After-loop-i).1
+    let xs = a.values.now in
+    let t = L.invariant.taking in
+    let f = ended (goal.at.returns c).After-loop-i in
+    let all : L.i ≡ length xs = omega (arith, t.within, c.loop-i-test.false) in
+    subst (λ (n : ℕ). IsTaken (patterns a.automaton.now.records) (position_at a.taken a.node a.first a.next a.places.now a.heights.now) xs
+    a.hits.now L.hits L.places L.heights (found_at a.taken a.recent.now xs) a.rises.now L.rises
+    (record { first = L.oldest; next = L.newest; node = L.at; counts = record { taken = n; hits = L.found; attempts = L.attempts } })) all
+    (record {
+      state = f.0;
+      counters = L.invariant.counters;
+      minima = (omega (
+        arith,
+        L.invariant.counters.ordered,
+        Good-few (a.taken + L.i) (ring_from L.oldest L.newest L.places L.heights)
+            (good (a.taken + L.i) (ring_from L.oldest L.newest L.places L.heights) t.ring),
+      ));
+      node = t.node;
+      within = t.within;
+      done = f.1;
+    })

@@ -26,7 +26,7 @@ stopped c =
     let t = c.args.tables.now.tables.now in
     let ps = patterns t in
     let text = c.args.text.now in
-    let good = set_good t.set.now t.good in
+    let good = set_good t.windows.set.now t.windows.good in
     let h = c.in-Some.ensures in
     let q = c.in-Some.stop.at.place in (
       Scan-skip ps text L.at.place L.count good L.invariant.1 q h.1 h.3,
@@ -47,7 +47,7 @@ ended c =
     let t = c.args.tables.now.tables.now in
     let ps = patterns t in
     let text = c.args.text.now in
-    let good = set_good t.set.now t.good in
+    let good = set_good t.windows.set.now t.windows.good in
     let i = L.invariant in (
       scan_end ps text L.at.place L.count good i.1 i.0.0 c.in_default.ensures,
       hits_counted ps text L.at.place L.found L.trusted i.3 good i.0.0 c.in_default.ensures c.requires.text_len_bound,
@@ -85,7 +85,7 @@ loop-stop-preserved c =
     let b = c.behind-at.ensures in
     let there = stopped (goal.at.loop-stop-preserved c).In-Some in (
       b.stands,
-      rw (b.place_value, c.size.ensures) (Scan-next ps text stop.at.place L.count (set_good t.set.now t.good) there.0 stop.candidates h.5),
+      rw (b.place_value, c.size.ensures) (Scan-next ps text stop.at.place L.count (set_good t.windows.set.now t.windows.good) there.0 stop.candidates h.5),
       rw b.place_value c.look_at.ensures.hits_marked_2,
       rw b.place_value
           (HitsCounted-next ps text stop.at.place L.found L.trusted there.2 c.look_at.result c.if-count-ge64.trusted h.2

@@ -13,7 +13,7 @@ returns-then-is_marked-clause-lower_bound c =
       omega (
         arith,
         c.size.ensures,
-        hits_at_candidates (patterns t) c.args.text.now stop.at.place stop.candidates (set_good t.set.now t.good)
+        hits_at_candidates (patterns t) c.args.text.now stop.at.place stop.candidates (set_good t.windows.set.now t.windows.good)
             c.requires.set_of,
       ),
       omega (arith, c.size.ensures, bits_le stop.candidates),
@@ -25,9 +25,9 @@ returns c =
     let ps = patterns t in
     let text = c.args.text.now in
     let p = c.args.stop.at.place in
-    let good = set_good t.set.now t.good in
+    let good = set_good t.windows.set.now t.windows.good in
     let r = c.hits_among-found in
-    let e = c.size-2.ensures ∙ hits_at_size ps text p t.numbers.now r.result good t.filled.check.ranks r.ensures in record {
+    let e = c.size-2.ensures ∙ hits_at_size ps text p t.windows.numbers.now r.result good t.filled.check.ranks r.ensures in record {
       hits_marked_2 = marks_next ps text c.args.marks.now.words p good c.requires.hits_marked _ r.result r.ensures c.mark_if.ensures;
       lower_bound = (omega (arith, e), omega (arith, e, hits_at-le ps text p good));
       value = λ _. e;

@@ -21,8 +21,8 @@ here : (c : After-hits_at) →
     ≡ length (bits c.hits_at.result) + length (hits_from ps c.args.text.now (p + 1) (c.args.end - (p + 1)))
 here c =
     let t = c.args.tables.now in
-    place_length (patterns t) c.args.text.now c.loop-p.p c.args.end c.loop-p-test.true (set_good t.set.now t.good) t.numbers.now c.hits_at.result
-    t.filled.check.ranks c.hits_at.ensures
+    place_length (patterns t) c.args.text.now c.loop-p.p c.args.end c.loop-p-test.true (set_good t.windows.set.now t.windows.good)
+    t.windows.numbers.now c.hits_at.result t.filled.check.ranks c.hits_at.ensures
 
 pub overflow_add-count : goal.overflow_add-count
 overflow_add-count c =
@@ -34,7 +34,7 @@ overflow_add-count c =
       here (goal.at.overflow_add-count c).After-hits_at,
       c.loop-p.invariant.2,
       c.requires.first_le_end.2,
-      hits_from-le (patterns t) a.text.now a.first (a.end - a.first) (set_good t.set.now t.good),
+      hits_from-le (patterns t) a.text.now a.first (a.end - a.first) (set_good t.windows.set.now t.windows.good),
     )
 
 pub loop-p-preserved : goal.loop-p-preserved

@@ -21,7 +21,7 @@ overflow_add-count c =
       length_block_step (patterns t) text (64 * L.block) c.min-end.result (omega (arith, c.loop-block-test.true, c.div_ceil-block-end.ensures))
           c.min-end.ensures,
       L.invariant.2,
-      hits_from-le (patterns t) text 0 (length text - 0) (set_good t.set.now t.good),
+      hits_from-le (patterns t) text 0 (length text - 0) (set_good t.windows.set.now t.windows.good),
     )
 
 pub loop-block-init : goal.loop-block-init
@@ -50,7 +50,7 @@ loop-block-preserved c =
         )),
       )
       | else-is_marked w ↦ let none =
-          block_pass ps text c.args.marks.now.words first L.block (set_good t.set.now t.good) c.requires.hits_marked
+          block_pass ps text c.args.marks.now.words first L.block (set_good t.windows.set.now t.windows.good) c.requires.hits_marked
           (sym c.is_marked.ensures ∙ w.if-is_marked.false) (omega arith) lt in (
             omega (arith, w.done-is, L.invariant.0, next),
             Since-same text c.if-is_marked.done c.if-is_marked.begin L.done L.begin w.done-is w.begin-is L.invariant.1,

@@ -15,7 +15,7 @@ use Rattle.filter_passes.proofs.listing.write_block.Goals as goal
 pub loop-p-init : goal.loop-p-init
 loop-p-init c =
     let a = c.args in
-    let ps = patterns a.tables.now in (
+    let ps = patterns a.tables.now.tables in (
       c.fingerprint_before-own.ensures,
       c.requires.first_le_end.3,
       Written-start (rise_in ps a.text.now) a.out.now a.rises.now (hits_from ps a.text.now a.first (a.end - a.first)) c.requires.first_in_bounds
@@ -26,7 +26,7 @@ pub write_place-to-requires-clause-room : goal.write_place-to-requires-clause-ro
 write_place-to-requires-clause-room c =
     let L = c.loop-p in
     let a = c.args in
-    let ps = patterns a.tables.now in
+    let ps = patterns a.tables.now.tables in
     let text = a.text.now in
     part_room (rise_in ps text) a.out.now L.out a.rises.now L.rises L.to (hits_from ps text a.first (a.end - a.first)) (hits_from ps text L.p (a.end - L.p))
     L.invariant.2 (hits_at ps text L.p) (hits_from ps text (L.p + 1) (a.end - (L.p + 1))) (hits_step ps text L.p a.end c.loop-p-test.true)
@@ -35,7 +35,7 @@ pub overflow_add-to : goal.overflow_add-to
 overflow_add-to c =
     let L = c.loop-p in
     let a = c.args in
-    let ps = patterns a.tables.now in
+    let ps = patterns a.tables.now.tables in
     let text = a.text.now in
     let room =
     written_room (rise_in ps text) a.out.now L.out a.rises.now L.rises L.to (hits_from ps text a.first (a.end - a.first))
@@ -47,7 +47,7 @@ pub loop-p-preserved : goal.loop-p-preserved
 loop-p-preserved c =
     let L = c.loop-p in
     let a = c.args in
-    let ps = patterns a.tables.now in
+    let ps = patterns a.tables.now.tables in
     let text = a.text.now in
     let one = sym (add-one L.p) in
     let w = c.write_place-to in (
@@ -62,7 +62,7 @@ pub returns : goal.returns
 returns c =
     let L = c.loop-p in
     let a = c.args in
-    let ps = patterns a.tables.now in
+    let ps = patterns a.tables.now.tables in
     let text = a.text.now in
     let e : L.p ≡ a.end = omega (arith, c.loop-p-test.false) in
     let w =

@@ -14,5 +14,5 @@ abbrev pub invariant-loop-p : goal.invariant-loop-p
 invariant-loop-p l =
     (l.own ≡ text_fingerprint 17 (take l.p l.text))
     × Since l.text l.p l.since
-    × Written (rise_in (patterns l.tables) l.text) l.initial.out l.out l.initial.rises l.rises l.to
-    (hits_from (patterns l.tables) l.text l.first (l.end - l.first)) (hits_from (patterns l.tables) l.text l.p (l.end - l.p))
+    × Written (rise_in (patterns l.tables.tables) l.text) l.initial.out l.out l.initial.rises l.rises l.to
+    (hits_from (patterns l.tables.tables) l.text l.first (l.end - l.first)) (hits_from (patterns l.tables.tables) l.text l.p (l.end - l.p))

@@ -16,17 +16,17 @@ use Rattle.filter_passes.proofs.listing.write_hits.Goals as goal
 
 -- the hits from the block's first place on are those of the block, and those behind it
 here : (c : After-min-end) →
-    let ps = patterns c.args.tables.now in
+    let ps = patterns c.args.tables.now.tables in
     let first = 64 * c.loop-block.block in
     rest_hits ps c.args.text.now first ≡ hits_from ps c.args.text.now first (c.min-end.result - first) ++ rest_hits ps c.args.text.now (first + 64)
 here c =
-    block_step_to (patterns c.args.tables.now) c.args.text.now (64 * c.loop-block.block) c.min-end.result
+    block_step_to (patterns c.args.tables.now.tables) c.args.text.now (64 * c.loop-block.block) c.min-end.result
     (omega (arith, c.loop-block-test.true, c.div_ceil-block-end.ensures)) c.min-end.ensures
 
 pub loop-block-init : goal.loop-block-init
 loop-block-init c =
     let a = c.args in
-    let ps = patterns a.tables.now in
+    let ps = patterns a.tables.now.tables in
     let text = a.text.now in
     let all = ap length (hits_all ps text) in (
       omega arith,
@@ -39,7 +39,7 @@ pub write_block-listed-requires-clause-first_in_bounds : goal.write_block-listed
 write_block-listed-requires-clause-first_in_bounds c =
     let L = c.loop-block in
     let a = c.args in
-    let ps = patterns a.tables.now in
+    let ps = patterns a.tables.now.tables in
     let text = a.text.now in
     let first = 64 * L.block in
     (part_room (rise_in ps text) a.out.now L.out a.rises.now L.rises L.to (rest_hits ps text 0) (rest_hits ps text first) L.invariant.2
@@ -50,7 +50,7 @@ pub write_block-listed-requires-clause-first_in_bounds_2 : goal.write_block-list
 write_block-listed-requires-clause-first_in_bounds_2 c =
     let L = c.loop-block in
     let a = c.args in
-    let ps = patterns a.tables.now in
+    let ps = patterns a.tables.now.tables in
     let text = a.text.now in
     let first = 64 * L.block in
     (part_room (rise_in ps text) a.out.now L.out a.rises.now L.rises L.to (rest_hits ps text 0) (rest_hits ps text first) L.invariant.2
@@ -61,7 +61,7 @@ pub overflow_add-to : goal.overflow_add-to
 overflow_add-to c =
     let L = c.loop-block in
     let a = c.args in
-    let ps = patterns a.tables.now in
+    let ps = patterns a.tables.now.tables in
     let text = a.text.now in
     let first = 64 * L.block in
     let room =
@@ -73,7 +73,7 @@ pub loop-block-preserved : goal.loop-block-preserved
 loop-block-preserved c =
     let L = c.loop-block in
     let a = c.args in
-    let t = a.tables.now in
+    let t = a.tables.now.tables in
     let ps = patterns t in
     let text = a.text.now in
     let f = rise_in ps text in
@@ -91,7 +91,7 @@ loop-block-preserved c =
             b.ensures.rises_after b.ensures.hits_value),
       )
       | else-is_marked w ↦ let none =
-          block_pass ps text a.marks.now.words first L.block (set_good t.set.now t.good) c.requires.hits_marked
+          block_pass ps text a.marks.now.words first L.block (set_good t.windows.set.now t.windows.good) c.requires.hits_marked
           (sym c.is_marked.ensures ∙ w.if-is_marked.false) (omega arith) lt in (
             omega (arith, w.done-is, L.invariant.0, next),
             Since-same text c.if-is_marked.done c.if-is_marked.begin L.done L.begin w.done-is w.begin-is L.invariant.1,
@@ -105,7 +105,7 @@ pub returns : goal.returns
 returns c =
     let L = c.loop-block in
     let a = c.args in
-    let ps = patterns a.tables.now in
+    let ps = patterns a.tables.now.tables in
     let text = a.text.now in
     let f = rise_in ps text in
     let end : length text ≤ 64 * L.block = omega (arith, c.loop-block-test.false, c.div_ceil-block-end.ensures) in

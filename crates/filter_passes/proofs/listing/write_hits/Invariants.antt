@@ -13,5 +13,5 @@ abbrev pub invariant-loop-block : goal.invariant-loop-block
 invariant-loop-block l =
     (l.done ≤ 64 * l.block)
     × Since l.text l.done l.begin
-    × Written (rise_in (patterns l.tables) l.text) l.initial.out l.out l.initial.rises l.rises l.to (rest_hits (patterns l.tables) l.text 0)
-    (rest_hits (patterns l.tables) l.text (64 * l.block))
+    × Written (rise_in (patterns l.tables.tables) l.text) l.initial.out l.out l.initial.rises l.rises l.to (rest_hits (patterns l.tables.tables) l.text 0)
+    (rest_hits (patterns l.tables.tables) l.text (64 * l.block))

@@ -12,16 +12,18 @@ pub returns-clause-out_after : goal.returns-clause-out_after
 returns-clause-out_after c =
     let a = c.args in
     let t = a.tables.now in
+    let w = t.tables.windows in
     c.write_many.ensures.out_after
     ∙ ap (λ (l : List (ℕ × ℕ)). sets a.out.now 0 (hit_words l))
-    (group_hits (length (patterns t)) t.numbers.now t.equal.now t.grouped.now t.words.now a.p a.r t.groups c.requires.r_in_bounds.0)
+    (group_hits (length (patterns t.tables)) w.numbers.now w.equal.now t.grouped.now t.words.now a.p a.r t.groups c.requires.r_in_bounds.0)
 
 pub returns-clause-rises_after : goal.returns-clause-rises_after
 returns-clause-rises_after c =
     let a = c.args in
     let t = a.tables.now in
-    let all = rank_hits t.numbers.now a.p (bits (get_or t.equal.now a.r 0)) in
+    let w = t.tables.windows in
+    let all = rank_hits w.numbers.now a.p (bits (get_or w.equal.now a.r 0)) in
     c.write_many.ensures.rises_after
     ∙ ap (λ (l : List (ℕ × ℕ)). sets a.rises.now 0 (map (λ _. to_z w32 (of_z w32 a.rise)) l))
-    (group_hits (length (patterns t)) t.numbers.now t.equal.now t.grouped.now t.words.now a.p a.r t.groups c.requires.r_in_bounds.0)
+    (group_hits (length (patterns t.tables)) w.numbers.now w.equal.now t.grouped.now t.words.now a.p a.r t.groups c.requires.r_in_bounds.0)
     ∙ ap (λ (v : ℤ). sets a.rises.now 0 (map (λ _. v) all)) (back_i32 c.ranges.rise)

@@ -19,33 +19,37 @@ use Rattle.filter_passes.proofs.place.write_place.Goals as goal
 
 -- the group has a hit
 group : (c : In-Some) →
-    let t = c.args.tables.now in
+    let t = c.args.tables.now.tables in
+    let w = t.windows in
     let g = c.in-Some.group in
     (g.rank < length (patterns t))
-    × HitGroup (patterns t) (take (suc c.args.p) c.args.text.now) c.loop-group.rest (get_or t.equal.now g.rank 0) g.length g.rest
+    × HitGroup (patterns t) (take (suc c.args.p) c.args.text.now) c.loop-group.rest (get_or w.equal.now g.rank 0) g.length g.rest
 group c = c.in-Some.ensures
 
 -- its hits come first of those left
 first : (c : In-Some) →
-    let t = c.args.tables.now in
+    let t = c.args.tables.now.tables in
+    let w = t.windows in
     let g = c.in-Some.group in
-    hits_of (patterns t) c.args.text.now c.args.p t.numbers.now c.loop-group.rest
-    ≡ rank_hits t.numbers.now c.args.p (bits (get_or t.equal.now g.rank 0)) ++ hits_of (patterns t) c.args.text.now c.args.p t.numbers.now g.rest
+    hits_of (patterns t) c.args.text.now c.args.p w.numbers.now c.loop-group.rest
+    ≡ rank_hits w.numbers.now c.args.p (bits (get_or w.equal.now g.rank 0)) ++ hits_of (patterns t) c.args.text.now c.args.p w.numbers.now g.rest
 first c =
-    let t = c.args.tables.now in
+    let t = c.args.tables.now.tables in
+    let w = t.windows in
     let g = c.in-Some.group in
-    group_first (patterns t) c.args.text.now c.args.p t.numbers.now (set_good t.set.now t.good) t.filled.check.ranks
-    c.loop-group.rest (get_or t.equal.now g.rank 0) g.rank g.length g.rest (t.filled.check.equals g.rank (group c).0) (group c).1
+    group_first (patterns t) c.args.text.now c.args.p w.numbers.now (set_good w.set.now w.good) w.check.ranks
+    c.loop-group.rest (get_or w.equal.now g.rank 0) g.rank g.length g.rest (w.check.equals g.rank (group c).0) (group c).1
 
 pub loop-group-init : goal.loop-group-init
 loop-group-init c =
     let a = c.args in
-    let t = a.tables.now in
+    let t = a.tables.now.tables in
+    let w = t.windows in
     let ps = patterns t in
     let f = rise_in ps a.text.now in
     let all = hits_at ps a.text.now a.p in (
       subst (λ (l : List (ℕ × ℕ)). Written f a.out.now a.out.now a.rises.now a.rises.now 0 all l)
-          (sym (likely_all ps a.text.now a.p t.numbers.now (set_good t.set.now t.good) t.filled.check.ranks a.likely c.requires.set_of))
+          (sym (likely_all ps a.text.now a.p w.numbers.now (set_good w.set.now w.good) w.check.ranks a.likely c.requires.set_of))
           (Written-start f a.out.now a.rises.now all c.requires.room.0 c.requires.room.1),
       likely-groups ps (take (suc a.p) a.text.now) a.likely c.requires.set_of,
     )
@@ -53,61 +57,65 @@ loop-group-init c =
 pub rise_in-group_rise-requires : goal.rise_in-group_rise-requires
 rise_in-group_rise-requires c =
     let a = c.args in
-    let t = a.tables.now in
+    let t = a.tables.now.tables in
+    let w = t.windows in
     let g = c.in-Some.group in
     let k = group (goal.at.rise_in-group_rise-requires c).In-Some in (
       c.requires.p_in_bounds.0,
       g.some,
-      group_within (patterns t) a.text.now a.p t.numbers.now (set_good t.set.now t.good) t.filled.check.ranks
-          c.loop-group.rest (get_or t.equal.now g.rank 0) g.rank g.length g.rest (t.filled.check.equals g.rank k.0) k.1 k.0 c.requires.p_in_bounds.0,
+      group_within (patterns t) a.text.now a.p w.numbers.now (set_good w.set.now w.good) w.check.ranks
+          c.loop-group.rest (get_or w.equal.now g.rank 0) g.rank g.length g.rest (w.check.equals g.rank k.0) k.1 k.0 c.requires.p_in_bounds.0,
     )
 
 pub write_group-to-requires-clause-room : goal.write_group-to-requires-clause-room
 write_group-to-requires-clause-room c =
     let L = c.loop-group in
     let a = c.args in
-    let t = a.tables.now in
+    let t = a.tables.now.tables in
+    let w = t.windows in
     let ps = patterns t in
     let g = c.in-Some.group in
-    let ranks = bits (get_or t.equal.now g.rank 0) in
+    let ranks = bits (get_or w.equal.now g.rank 0) in
     let room =
-    part_room (rise_in ps a.text.now) a.out.now L.out a.rises.now L.rises L.to (hits_at ps a.text.now a.p) (hits_of ps a.text.now a.p t.numbers.now L.rest)
-    L.invariant.0 (rank_hits t.numbers.now a.p ranks) (hits_of ps a.text.now a.p t.numbers.now g.rest)
+    part_room (rise_in ps a.text.now) a.out.now L.out a.rises.now L.rises L.to (hits_at ps a.text.now a.p) (hits_of ps a.text.now a.p w.numbers.now L.rest)
+    L.invariant.0 (rank_hits w.numbers.now a.p ranks) (hits_of ps a.text.now a.p w.numbers.now g.rest)
     (first (goal.at.write_group-to-requires-clause-room c).In-Some) in
-    rw (length-rank_hits t.numbers.now a.p ranks) at room
+    rw (length-rank_hits w.numbers.now a.p ranks) at room
 
 pub overflow_add-to : goal.overflow_add-to
 overflow_add-to c =
     let L = c.loop-group in
     let a = c.args in
-    let t = a.tables.now in
+    let t = a.tables.now.tables in
+    let w = t.windows in
     let ps = patterns t in
     let g = c.in-Some.group in
-    let ranks = bits (get_or t.equal.now g.rank 0) in
+    let ranks = bits (get_or w.equal.now g.rank 0) in
     let room =
-    written_room (rise_in ps a.text.now) a.out.now L.out a.rises.now L.rises L.to (hits_at ps a.text.now a.p) (hits_of ps a.text.now a.p t.numbers.now L.rest)
-    L.invariant.0 (rank_hits t.numbers.now a.p ranks) (hits_of ps a.text.now a.p t.numbers.now g.rest) (first (goal.at.overflow_add-to c).In-Some) in
-    omega (arith, room.1, length-rank_hits t.numbers.now a.p ranks, c.write_group-to.ensures.value)
+    written_room (rise_in ps a.text.now) a.out.now L.out a.rises.now L.rises L.to (hits_at ps a.text.now a.p) (hits_of ps a.text.now a.p w.numbers.now L.rest)
+    L.invariant.0 (rank_hits w.numbers.now a.p ranks) (hits_of ps a.text.now a.p w.numbers.now g.rest) (first (goal.at.overflow_add-to c).In-Some) in
+    omega (arith, room.1, length-rank_hits w.numbers.now a.p ranks, c.write_group-to.ensures.value)
 
 pub loop-group-preserved : goal.loop-group-preserved
 loop-group-preserved c =
     let L = c.loop-group in
     let a = c.args in
-    let t = a.tables.now in
+    let t = a.tables.now.tables in
+    let w = t.windows in
     let ps = patterns t in
     let g = c.in-Some.group in
     let f = rise_in ps a.text.now in
-    let ranks = bits (get_or t.equal.now g.rank 0) in
+    let ranks = bits (get_or w.equal.now g.rank 0) in
     let k = group (goal.at.loop-group-preserved c).In-Some in
     let one =
-    group_rises ps a.text.now a.p t.numbers.now (set_good t.set.now t.good) t.filled.check.ranks L.rest (get_or t.equal.now g.rank 0) g.rank g.length g.rest
-    (t.filled.check.equals g.rank k.0) k.1 (to_z w32 (of_z w32 c.rise_in-group_rise.result))
+    group_rises ps a.text.now a.p w.numbers.now (set_good w.set.now w.good) w.check.ranks L.rest (get_or w.equal.now g.rank 0) g.rank g.length g.rest
+    (w.check.equals g.rank k.0) k.1 (to_z w32 (of_z w32 c.rise_in-group_rise.result))
     (back_i32 (record { sfits = c.rise_in-group_rise.type_inv }) ∙ c.rise_in-group_rise.ensures) in (
-      Written-behind f a.out.now L.out a.rises.now L.rises L.to (hits_at ps a.text.now a.p) (hits_of ps a.text.now a.p t.numbers.now L.rest) L.invariant.0
-          (rank_hits t.numbers.now a.p ranks) (hits_of ps a.text.now a.p t.numbers.now g.rest) (first (goal.at.loop-group-preserved c).In-Some)
+      Written-behind f a.out.now L.out a.rises.now L.rises L.to (hits_at ps a.text.now a.p) (hits_of ps a.text.now a.p w.numbers.now L.rest) L.invariant.0
+          (rank_hits w.numbers.now a.p ranks) (hits_of ps a.text.now a.p w.numbers.now g.rest) (first (goal.at.loop-group-preserved c).In-Some)
           c.write_group-to.new.out c.write_group-to.new.rises c.write_group-to.result c.write_group-to.ensures.out_after
           (c.write_group-to.ensures.rises_after ∙ ap (sets (take (length L.rises - L.to) (drop L.to L.rises)) 0) one)
-          (c.write_group-to.ensures.value ∙ sym (length-rank_hits t.numbers.now a.p ranks)),
+          (c.write_group-to.ensures.value ∙ sym (length-rank_hits w.numbers.now a.p ranks)),
       k.1.groups,
     )
 
@@ -115,12 +123,13 @@ pub returns : goal.returns
 returns c =
     let L = c.loop-group in
     let a = c.args in
-    let t = a.tables.now in
+    let t = a.tables.now.tables in
+    let w = t.windows in
     let ps = patterns t in
     let e =
     written_end (rise_in ps a.text.now) a.out.now L.out a.rises.now L.rises L.to (hits_at ps a.text.now a.p)
-    (hits_of ps a.text.now a.p t.numbers.now L.rest) L.invariant.0
-    (none_all ps a.text.now a.p t.numbers.now (set_good t.set.now t.good) t.filled.check.ranks L.rest c.in_default.ensures) in record {
+    (hits_of ps a.text.now a.p w.numbers.now L.rest) L.invariant.0
+    (none_all ps a.text.now a.p w.numbers.now (set_good w.set.now w.good) w.check.ranks L.rest c.in_default.ensures) in record {
       value = e.0;
       out_after = e.1;
       rises_after = e.2;

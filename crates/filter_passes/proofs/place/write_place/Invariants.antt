@@ -11,9 +11,9 @@ use Rattle.filter_passes.proofs.place.write_place.Given as goal
 
 abbrev pub invariant-loop-group : goal.invariant-loop-group
 invariant-loop-group l =
-    Written (rise_in (patterns l.tables) l.text) l.initial.out l.out l.initial.rises l.rises l.to (hits_at (patterns l.tables) l.text l.p)
-    (hits_of (patterns l.tables) l.text l.p l.tables.numbers.now l.rest)
-    × LikelyGroups (patterns l.tables) (take (suc l.p) l.text) l.rest
+    Written (rise_in (patterns l.tables.tables) l.text) l.initial.out l.out l.initial.rises l.rises l.to (hits_at (patterns l.tables.tables) l.text l.p)
+    (hits_of (patterns l.tables.tables) l.text l.p l.tables.tables.windows.numbers.now l.rest)
+    × LikelyGroups (patterns l.tables.tables) (take (suc l.p) l.text) l.rest
 
 abbrev pub decreases-loop-group : goal.decreases-loop-group
 decreases-loop-group l = l.rest

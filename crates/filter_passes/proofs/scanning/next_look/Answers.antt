@@ -39,9 +39,9 @@ passed c =
     let n = suc q - c.args.from.begin in
     let fingerprint = text_fingerprint t.span (take (suc q) text) in
     let none =
-    Looked-candidates ps text q c.args.from.begin n (set_good t.tables.now.set.now t.tables.now.good) i.0 here.0 refl t.low.now t.high.now
-    t.tables.now.fits.now fingerprint t.span 0 t.filled t.span_is refl
-    (Looked-none t.low.now t.high.now t.tables.now.fits.now fingerprint n c.alike_at-alike.result here.1 c.if-alike-ne0.false) in
+    Looked-candidates ps text q c.args.from.begin n (set_good t.tables.now.windows.set.now t.tables.now.windows.good) i.0 here.0 refl t.low.now t.high.now
+    t.tables.now.windows.fits.now fingerprint t.span 0 t.filled t.span_is refl
+    (Looked-none t.low.now t.high.now t.tables.now.windows.fits.now fingerprint n c.alike_at-alike.result here.1 c.if-alike-ne0.false) in
     (subst (λ (m : ℕ). Since text m c.args.from.begin) (sym (add-one q)) here.0, none_more ps text c.args.from.place q i.3 none)
 
 pub loop-place-init : goal.loop-place-init

@@ -49,7 +49,7 @@ loop-at-preserved c =
       omega (arith, L.invariant.1, h.1, b.place_value),
       subst (λ (n : ℕ). NoneFrom ps a.text.now a.from.place n) (sym b.place_value)
           (none_more ps a.text.now a.from.place look.place (none_on ps a.text.now a.from.place L.at.place look.place L.invariant.2 h.3)
-          (gap_candidates ps a.text.now look.place (set_good t.set.now t.good) h.2 (h.4 c.if-look-ne0.false))),
+          (gap_candidates ps a.text.now look.place (set_good t.windows.set.now t.windows.good) h.2 (h.4 c.if-look-ne0.false))),
     )
 
 pub returns : goal.returns

@@ -12,9 +12,9 @@ use Rattle.filter_passes.proofs.single.search_places.Given as goal
 abbrev pub invariant-loop-stop : goal.invariant-loop-stop
 invariant-loop-stop l =
     Stands l.text l.at.place l.at.own l.at.begin
-    × Scan (patterns l.tables.tables.now) l.text l.at.place l.count
-    × Written (rise_in (patterns l.tables.tables.now) l.text) l.initial.out l.out l.initial.rises l.rises l.to
-    (rest_hits (patterns l.tables.tables.now) l.text 0) (rest_hits (patterns l.tables.tables.now) l.text l.at.place)
+    × Scan (patterns l.tables.tables) l.text l.at.place l.count
+    × Written (rise_in (patterns l.tables.tables) l.text) l.initial.out l.out l.initial.rises l.rises l.to
+    (rest_hits (patterns l.tables.tables) l.text 0) (rest_hits (patterns l.tables.tables) l.text l.at.place)
 
 abbrev pub decreases-loop-stop : goal.decreases-loop-stop
 decreases-loop-stop l = length l.text - l.at.place

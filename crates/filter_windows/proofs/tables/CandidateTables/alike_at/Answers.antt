@@ -9,7 +9,7 @@ use Rattle.filter_windows.proofs.tables.CandidateTables.alike_at.Goals as goal
 pub set_fingerprint-requires : goal.set_fingerprint-requires
 set_fingerprint-requires c =
     let s = c.args.self.now in
-    let h = set_fingerprint_length (patterns s.tables.now) s.span (set_good s.tables.now.set.now s.tables.now.good) s.span_is in
+    let h = set_fingerprint_length (patterns s.tables.now) s.span (set_good s.tables.now.windows.set.now s.tables.now.windows.good) s.span_is in
     (omega (arith, h.0), omega (arith, h.1))
 
 pub returns : goal.returns

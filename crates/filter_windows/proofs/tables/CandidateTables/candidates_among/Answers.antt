@@ -15,6 +15,6 @@ returns c =
     let high = a.self.now.high.now in
     let n = a.p + 1 - a.begin in
     let k = text_fingerprint a.self.now.span (take (suc a.p) a.text.now) in
-    Looked-candidates (patterns t) a.text.now a.p a.begin n (set_good t.set.now t.good) c.requires.p_in_bounds.0 c.requires.p_in_bounds.1 (omega arith)
-    low high t.fits.now k a.self.now.span c.fitting.result a.self.now.filled a.self.now.span_is refl
-    (Looked-Fitting low high t.fits.now k n a.alike c.requires.alike c.fitting.result c.fitting.ensures)
+    Looked-candidates (patterns t) a.text.now a.p a.begin n (set_good t.windows.set.now t.windows.good) c.requires.p_in_bounds.0 c.requires.p_in_bounds.1
+    (omega arith) low high t.windows.fits.now k a.self.now.span c.fitting.result a.self.now.filled a.self.now.span_is refl
+    (Looked-Fitting low high t.windows.fits.now k n a.alike c.requires.alike c.fitting.result c.fitting.ensures)

@@ -13,7 +13,7 @@ pub returns : goal.returns
 returns c =
     let a = c.args in
     among_likely (patterns a.self.now) (take (suc a.p) a.text.now) a.self.now.own_low.now a.self.now.own_high.now a.own c.by_fingerprint-alike.result
-    a.candidates c.common.result (set_good a.self.now.set.now a.self.now.good) a.self.now.filled.own.by_low a.self.now.filled.own.by_high
+    a.candidates c.common.result (set_good a.self.now.windows.set.now a.self.now.windows.good) a.self.now.filled.own.by_low a.self.now.filled.own.by_high
     c.requires.p_in_bounds.1
     c.by_fingerprint-alike.ensures
     c.requires.set_of c.common.ensures

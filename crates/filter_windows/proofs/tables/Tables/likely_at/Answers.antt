@@ -13,6 +13,6 @@ look-requires c =
 pub returns : goal.returns
 returns c =
     let a = c.args in
-    Looked-likely (patterns a.self.now) a.text.now a.p a.begin (a.p + 1 - a.begin) (set_good a.self.now.set.now a.self.now.good)
+    Looked-likely (patterns a.self.now) a.text.now a.p a.begin (a.p + 1 - a.begin) (set_good a.self.now.windows.set.now a.self.now.windows.good)
     c.requires.p_in_bounds.0 c.requires.p_in_bounds.2 (omega arith)
-    a.self.now.own_low.now a.self.now.own_high.now a.self.now.fits.now a.own c.look.result a.self.now.filled.own c.requires.p_in_bounds.1 c.look.ensures
+    a.self.now.own_low.now a.self.now.own_high.now a.self.now.windows.fits.now a.own c.look.result a.self.now.filled.own c.requires.p_in_bounds.1 c.look.ensures
